@@ -1,0 +1,2 @@
+-- Laws for the proof of the joining of touching ranges.
+pub mod Laws

@@ -1,0 +1,2 @@
+-- The proofs of `walk`.
+pub mod Laws

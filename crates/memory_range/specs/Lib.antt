@@ -1,0 +1,14 @@
+pub mod Range
+pub mod List
+pub mod Bytes
+pub mod Round
+pub mod Align
+pub mod Power
+pub mod Valid
+pub mod Walk
+pub mod WalkStep
+pub mod Subtract
+pub mod Merge
+pub mod Sort
+pub mod Node
+pub mod Laws

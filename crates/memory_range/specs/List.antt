@@ -1,0 +1,37 @@
+-- Lists of ranges, as they are lent: a list for each field. Where the lists differ in length, the
+-- shortest one tells how many items there are (docs/SPEC.md, section 2).
+use Prim.Native.Nat.{ℕ}
+use mathlib.Core.List.{List, [], _∷_}
+use Rattle.memory_range.specs.declared.range.MemoryRange.{MemoryRange}
+use Rattle.memory_range.specs.declared.range.TaggedRange.{TaggedRange}
+use Rattle.memory_range.specs.Range.{range}
+
+-- the ranges of a list of starts and a list of ends
+abbrev pub rangesOf : List ℕ → List ℕ → List MemoryRange
+rangesOf [] es = []
+rangesOf (s ∷ ss) [] = []
+rangesOf (s ∷ ss) (e ∷ es) = range s e ∷ rangesOf ss es
+
+-- a range with a number that goes with it: a node, or a type
+abbrev pub tagged : ℕ → ℕ → ℕ → TaggedRange
+tagged s e t = record { range = range s e; tag = t }
+
+-- the tagged ranges of a list of starts, a list of ends and a list of tags
+abbrev pub taggedOf : List ℕ → List ℕ → List ℕ → List TaggedRange
+taggedOf [] es ts = []
+taggedOf (s ∷ ss) [] ts = []
+taggedOf (s ∷ ss) (e ∷ es) [] = []
+taggedOf (s ∷ ss) (e ∷ es) (t ∷ ts) = tagged s e t ∷ taggedOf ss es ts
+
+-- each field of tagged ranges as a list
+abbrev pub startsOf : List TaggedRange → List ℕ
+startsOf [] = []
+startsOf (x ∷ xs) = x .range .start ∷ startsOf xs
+
+abbrev pub endsOf : List TaggedRange → List ℕ
+endsOf [] = []
+endsOf (x ∷ xs) = x .range .end ∷ endsOf xs
+
+abbrev pub tagsOf : List TaggedRange → List ℕ
+tagsOf [] = []
+tagsOf (x ∷ xs) = x .tag ∷ tagsOf xs
