@@ -1,12 +1,12 @@
 -- Laws of the walk over plain variables: the boundary at an index, and what one pass of a boundary
 -- does to the pieces that are left.
-use Prim.Native.Nat.{ℕ, zero, suc, _+_, _-_, _*_, _^_, _<_, _≤_, min}
+use Prim.Native.Nat.{ℕ, zero, suc, _+_, _-_, _*_, _/_, _^_, _<_, _≤_, min}
 use mathlib.Core.Path.{_≡_, refl, ap, subst, _∙_}
 use mathlib.Core.Bool.{Bool, true, false, cond}
 use mathlib.Core.List.{List, [], _∷_, _++_}
 use mathlib.Core.Option.{Option, none, some}
 use native.Mathlib.Omega.{arith}
-use borrow.Author.Tests.{le-ltb}
+use borrow.Author.Tests.{le-ltb, lt-ltb}
 use lib.Dec.{leb, ltb}
 use lib.ListN.{length, drop, getD, drop-of-length-le}
 use lib.Seq.{drop-drop}
@@ -18,13 +18,14 @@ use Rattle.memory_range.specs.declared.walk.Found.the-variants.{Piece, N
 use Rattle.memory_range.specs.declared.walk.Pass.{Pass}
 use Rattle.memory_range.specs.declared.walk.Pass.the-variants.{To, End}
 use Rattle.memory_range.specs.declared.walk.RangeWalkResult.{RangeWalkResult}
+use Rattle.memory_range.specs.declared.walk.RangeWalkResult.the-variants.{Left, Right, Both}
 use Rattle.memory_range.specs.declared.walk.WalkCursor.{WalkCursor}
 use Rattle.memory_range.specs.declared.walk.WalkPiece.{WalkPiece}
 use Rattle.memory_range.specs.Laws.Boundaries.{boundaries-length}
 use Rattle.memory_range.specs.Laws.List.{length-ranges}
 use Rattle.memory_range.specs.List.{rangesOf}
 use Rattle.memory_range.specs.Range.{range}
-use Rattle.memory_range.specs.Walk.{boundaries, walkFrom, pieceOf, heldBy, openItem}
+use Rattle.memory_range.specs.Walk.{boundaries, walkFrom, pieceOf, heldBy, isOpen, openItem}
 use Rattle.memory_range.specs.WalkStep.{firstOf, passFirst, passLeft, passRight, passedBy, pieceTo, foundOf}
 
 -- as many boundaries as twice the shorter list has elements
@@ -75,6 +76,20 @@ no-piece a b (some h) p = rw (le-ltb a b p)
 
 pub no-bytes : (n m b : ℕ) (c : WalkCursor) → b ≤ c .at → pieceTo n m c b ≡ Nothing
 no-bytes n m b c p = ap foundOf (no-piece (c .at) b (heldBy (openItem n (c .left)) (openItem m (c .right))) p)
+
+-- what is found in a range, by whether an item of each list is open
+abbrev pub openFound : MemoryRange → ℕ → ℕ → Bool → Bool → Found
+openFound r i j true true = Piece (record { range = r; result = Both i j })
+openFound r i j true false = Piece (record { range = r; result = Left i })
+openFound r i j false true = Piece (record { range = r; result = Right j })
+openFound r i j false false = Nothing
+
+pub piece-open : (n m b : ℕ) (c : WalkCursor) (t u : Bool) → isOpen n (c .left) ≡ t → isOpen m (c .right) ≡ u → c .at < b
+    → pieceTo n m c b ≡ openFound (range (c .at) b) (c .left / 2) (c .right / 2) t u
+piece-open n m b c true true p q h = rw (p, q, lt-ltb (c .at) b h)
+piece-open n m b c true false p q h = rw (p, q, lt-ltb (c .at) b h)
+piece-open n m b c false true p q h = rw (p, q, lt-ltb (c .at) b h)
+piece-open n m b c false false p q h = rw (p, q)
 
 drop-next : (xs : List ℕ) (k x : ℕ) (rest : List ℕ) → drop k xs ≡ x ∷ rest → drop (k + 1) xs ≡ rest
 drop-next xs k x rest e = rw (← drop-drop 1 k xs, e)

@@ -105,3 +105,21 @@ rounded-least (suc m) n = go (decLt (roundUp (suc m) n) (2 ^ 64))
     go (no h) =
         rw (rounded-over (suc m) n (omega arith))
         (λ j p l. elim (decLt j n) [ yes q ↦ q | no q ↦ absurd (omega (arith, up-least (suc m) n pos j p (omega arith))) ])
+
+-- For a step m that divides 2^64, as pages and 32,768 bytes do, the answer is too large exactly where n is
+-- above 2^64 - m.
+module _ (m n : ℕ) (pos : 0 < m) (divides : Multiple m (2 ^ 64)) where
+  pub rounded-within : n ≤ 2 ^ 64 - m → roundedUp m n ≡ To (roundUp m n)
+  rounded-within h =
+      let most = multiple-le m m (2 ^ 64) (1, omega arith) divides (omega arith) in
+      rounded-to m n (up-above m n pos) (omega (arith, up-near m n pos))
+
+  pub rounded-beyond : 2 ^ 64 - m < n → roundedUp m n ≡ TooLarge
+  rounded-beyond h =
+      rounded-over m n (multiple-le m (2 ^ 64) (roundUp m n) divides (up-multiple m n) (omega (arith, up-above m n pos)))
+
+pub page-divides : Multiple 4096 (2 ^ 64)
+page-divides = (2 ^ 52, refl)
+
+pub share-divides : Multiple 32768 (2 ^ 64)
+share-divides = (2 ^ 49, refl)
