@@ -80,6 +80,10 @@ pub(crate) fn low_32_bits(value: u64) -> u32 {
     (value % 0x1_0000_0000) as u32
 }
 
+pub(crate) fn low_8_bits(value: u64) -> u8 {
+    (value % 256) as u8
+}
+
 // The part from a to b, or nothing where there is no such part.
 fn part<'a>(values: &'a [u64], a: usize, b: usize) -> &'a [u64] {
     if a <= b {

@@ -1,11 +1,16 @@
 // Replays stored answers. A line of a data file is the name of an operation and lists of numbers, the
-// lists parted by `/`, the last one by `=`: that one is what the operation answers to the others. A
-// line whose answer differs is printed; the last line counts.
+// lists parted by `/`, the last one by `=`: that one is what the operation answers to the others. In the
+// file of texts the name is followed by a text. A line whose answer differs is printed; the last line
+// of each file counts.
 mod case;
+mod decode;
+mod lines;
 mod lists;
 mod ranges;
+mod records;
 mod steps;
 mod text;
+mod texts;
 
 use libc::STDOUT_FILENO;
 
@@ -16,17 +21,44 @@ enum Replayed {
     Differs,
 }
 
+// Whose answers a data file stores.
+enum Layer {
+    MemoryRange,
+    PlanText,
+    PlanOutput,
+}
+
+// Whether the line's answer is the one that it stores.
+fn is_same(line: &[u8], layer: Layer) -> bool {
+    let op = text::first_word(line);
+    match layer {
+        Layer::MemoryRange => {
+            let c = text::read_case(line);
+            case::is_answer(c, ranges::answer(op, c))
+        }
+        Layer::PlanText => {
+            let rest = plan_fields::later_parts(line, op.len());
+            case::is_answer(
+                text::read_case(rest),
+                texts::answer(op, text::first_word(rest)),
+            )
+        }
+        Layer::PlanOutput => {
+            let c = text::read_case(line);
+            case::is_answer(c, lines::answer(op, c))
+        }
+    }
+}
+
 // An empty line, or one that starts with `#`, holds no case.
-fn replay_line(line: &[u8]) -> Replayed {
+fn replay_line(line: &[u8], layer: Layer) -> Replayed {
     if line.len() == 0 {
         return Replayed::NoCase;
     }
     if line[0] == b'#' {
         return Replayed::NoCase;
     }
-    let c = text::read_case(line);
-    let answer = ranges::answer(text::first_word(line), c);
-    if case::is_answer(c, answer) {
+    if is_same(line, layer) {
         return Replayed::Same;
     }
     io::write_all(STDOUT_FILENO, b"differs: ");
@@ -55,7 +87,7 @@ fn counted(counts: Counts, line: Replayed) -> Counts {
     }
 }
 
-fn replay_text(text: &[u8]) -> Counts {
+fn replay_text(text: &[u8], layer: Layer) -> Counts {
     let mut counts = Counts {
         cases: 0,
         differing: 0,
@@ -63,14 +95,14 @@ fn replay_text(text: &[u8]) -> Counts {
     let mut at = 0;
     while at < text.len() {
         let end = text::index_of(text, at, b'\n');
-        counts = counted(counts, replay_line(&text[at..end]));
+        counts = counted(counts, replay_line(&text[at..end], layer));
         at = end + 1;
     }
     counts
 }
 
 // A file that cannot be read gives no counts, which is not what the run must write.
-fn replay_file(path: &[u8]) {
+fn replay_file(path: &[u8], layer: Layer) {
     let fd = os::open_read(path);
     if fd < 0 {
         os::fail(path);
@@ -79,7 +111,7 @@ fn replay_file(path: &[u8]) {
     let mut buffer = io::large_buffer();
     let n = io::read_full(fd, &mut buffer);
     libc::close(fd);
-    let counts = replay_text(&buffer[..n]);
+    let counts = replay_text(&buffer[..n], layer);
     io::write_all(STDOUT_FILENO, path);
     io::write_all(STDOUT_FILENO, b": ");
     io::print_decimal(STDOUT_FILENO, counts.cases);
@@ -89,5 +121,7 @@ fn replay_file(path: &[u8]) {
 }
 
 fn main() {
-    replay_file(b"memory_range.txt");
+    replay_file(b"memory_range.txt", Layer::MemoryRange);
+    replay_file(b"plan_text.txt", Layer::PlanText);
+    replay_file(b"plan_output.txt", Layer::PlanOutput);
 }

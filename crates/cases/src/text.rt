@@ -35,7 +35,7 @@ pub(crate) enum Word {
 }
 
 // A digit's value, or 16.
-fn digit(b: u8) -> u64 {
+pub(crate) fn digit(b: u8) -> u64 {
     match b {
         b'0'..=b'9' => (b - b'0') as u64,
         b'a'..=b'f' => (b - b'a') as u64 + 10,

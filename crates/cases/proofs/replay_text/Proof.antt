@@ -9,8 +9,8 @@ pub replay-text-spec : {M : Type 1} → statement M
 replay-text-spec =
     tie.close
     (tie.spec
-    (λ text counts₀ at₀ counts at. Unit)
-    (λ text counts₀ at₀ counts at. length text - at)
+    (λ text layer counts₀ at₀ counts at. Unit)
+    (λ text layer counts₀ at₀ counts at. length text - at)
     (search needs)
     (search needs)
     (search needs)

@@ -1,0 +1,2 @@
+-- Laws for the proofs of cutting.
+pub mod Laws

@@ -1,0 +1,2 @@
+-- Laws for the proofs of comparing bytes.
+pub mod Laws

@@ -1,0 +1,4 @@
+pub mod Cut
+pub mod Word
+pub mod Number
+pub mod Laws

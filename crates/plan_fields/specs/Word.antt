@@ -1,0 +1,23 @@
+-- A field and a word compared (docs/SPEC.md, section 10).
+use Prim.Native.Nat.{ℕ}
+use mathlib.Core.Bool.{Bool, true, false, cond, _&&_}
+use mathlib.Core.List.{List, [], _∷_}
+use mathlib.Core.Option.{Option, none, some}
+use lib.Dec.{eqb}
+
+-- whether two lists have the same bytes in the same order
+abbrev pub sameBytes : List ℕ → List ℕ → Bool
+sameBytes [] [] = true
+sameBytes [] (b ∷ bs) = false
+sameBytes (a ∷ rest) [] = false
+sameBytes (a ∷ rest) (b ∷ bs) = eqb a b && sameBytes rest bs
+
+-- what goes on from a value, where there is one
+abbrev pub after : {A B : Type 0} → Option A → (A → Option B) → Option B
+after none next = none
+after (some x) next = next x
+
+-- what a field stands for, by a table of words and their values; none, where it is none of the words
+abbrev pub lookup : {A : Type 0} → List (List ℕ × A) → List ℕ → Option A
+lookup [] field = none
+lookup (row ∷ rows) field = cond (sameBytes field (row .0)) (some (row .1)) (lookup rows field)

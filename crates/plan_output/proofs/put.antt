@@ -1,0 +1,2 @@
+-- Laws for the proofs of puts.
+pub mod Laws

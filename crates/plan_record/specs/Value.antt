@@ -1,0 +1,153 @@
+-- What a single field stands for (docs/SPEC.md, section 12). A word is written as its bytes; the code has it as a byte string, and
+-- the proofs hold the two together.
+use Prim.Native.Nat.{ℕ}
+use mathlib.Core.Bool.{Bool, true, false, cond}
+use mathlib.Core.List.{List, [], _∷_}
+use mathlib.Core.Option.{Option, none, some}
+use lib.Dec.{leb}
+use Rattle.host_params.specs.declared.MemoryAllocationMode.{MemoryAllocationMode}
+use Rattle.host_params.specs.declared.MemoryAllocationMode.the-variants.{Host, Vtl2}
+use Rattle.host_params.specs.declared.IsolationType.{IsolationType}
+use Rattle.host_params.specs.declared.IsolationType.the-variants.{Vbs, Snp, Tdx, Cca}
+use Rattle.host_params.specs.declared.IsolationType.the-variants as isolation
+use Rattle.host_params.specs.declared.MemoryMapEntryType.{MemoryMapEntryType}
+use Rattle.host_params.specs.declared.MemoryMapEntryType.the-variants.{Vtl2Protectable, Memory}
+use Rattle.host_params.specs.declared.AllocationPolicy.{AllocationPolicy}
+use Rattle.host_params.specs.declared.AllocationPolicy.the-variants.{LowMemory, HighMemory}
+use Rattle.host_params.specs.declared.AllocationType.{AllocationType}
+use Rattle.host_params.specs.declared.AllocationType.the-variants.{GpaPool, SidecarNode, TdxPageTables}
+use Rattle.host_params.specs.declared.Vtl2GpaPoolConfig.{Vtl2GpaPoolConfig}
+use Rattle.host_params.specs.declared.Vtl2GpaPoolConfig.the-variants.{Heuristics, Off, Pages}
+use Rattle.host_params.specs.declared.Vtl2GpaPoolLookupTable.the-variants.{Release, Debug}
+use Rattle.host_params.specs.declared.OptionU64.{OptionU64}
+use Rattle.host_params.specs.declared.OptionU64.the-variants as u64
+use Rattle.host_params.specs.declared.OptionU32.{OptionU32}
+use Rattle.host_params.specs.declared.OptionU32.the-variants as u32
+use Rattle.plan_fields.specs.Word.{sameBytes, after, lookup}
+use Rattle.plan_fields.specs.Number.{numberOf}
+use Rattle.plan_record.specs.declared.value.ModeField.{ModeField}
+use Rattle.plan_record.specs.declared.value.ModeField.the-variants as mode-field
+use Rattle.plan_record.specs.declared.value.IsolationField.{IsolationField}
+use Rattle.plan_record.specs.declared.value.IsolationField.the-variants as isolation-field
+use Rattle.plan_record.specs.declared.value.EntryTypeField.{EntryTypeField}
+use Rattle.plan_record.specs.declared.value.EntryTypeField.the-variants as entry-type-field
+use Rattle.plan_record.specs.declared.value.PolicyField.{PolicyField}
+use Rattle.plan_record.specs.declared.value.PolicyField.the-variants as policy-field
+use Rattle.plan_record.specs.declared.value.KindField.{KindField}
+use Rattle.plan_record.specs.declared.value.KindField.the-variants as kind-field
+use Rattle.plan_record.specs.declared.value.SplitField.{SplitField}
+use Rattle.plan_record.specs.declared.value.SplitField.the-variants as split-field
+use Rattle.plan_record.specs.declared.value.OptionalField.{OptionalField}
+use Rattle.plan_record.specs.declared.value.OptionalField.the-variants as optional-field
+use Rattle.plan_record.specs.declared.value.NodeField.{NodeField}
+use Rattle.plan_record.specs.declared.value.NodeField.the-variants as node-field
+use Rattle.plan_record.specs.declared.value.OptionalNodeField.{OptionalNodeField}
+use Rattle.plan_record.specs.declared.value.OptionalNodeField.the-variants as optional-node-field
+use Rattle.plan_record.specs.declared.value.ConfigField.{ConfigField}
+use Rattle.plan_record.specs.declared.value.ConfigField.the-variants as config-field
+
+-- `h`, `b`
+abbrev pub modeOf : List ℕ → Option MemoryAllocationMode
+modeOf = lookup (((104 ∷ []), Host) ∷ ((98 ∷ []), Vtl2) ∷ [])
+
+-- `none`, `vbs`, `snp`, `tdx`, `cca`
+abbrev pub isolationOf : List ℕ → Option IsolationType
+isolationOf = lookup (
+    ((110 ∷ 111 ∷ 110 ∷ 101 ∷ []), isolation.None)
+    ∷ ((118 ∷ 98 ∷ 115 ∷ []), Vbs)
+    ∷ ((115 ∷ 110 ∷ 112 ∷ []), Snp)
+    ∷ ((116 ∷ 100 ∷ 120 ∷ []), Tdx)
+    ∷ ((99 ∷ 99 ∷ 97 ∷ []), Cca)
+    ∷ [])
+
+-- `p`, `o`
+abbrev pub entryTypeOf : List ℕ → Option MemoryMapEntryType
+entryTypeOf = lookup (((112 ∷ []), Vtl2Protectable) ∷ ((111 ∷ []), Memory) ∷ [])
+
+-- `l`, `h`
+abbrev pub policyOf : List ℕ → Option AllocationPolicy
+policyOf = lookup (((108 ∷ []), LowMemory) ∷ ((104 ∷ []), HighMemory) ∷ [])
+
+-- `p`, `s`, `t`
+abbrev pub kindOf : List ℕ → Option AllocationType
+kindOf = lookup (((112 ∷ []), GpaPool) ∷ ((115 ∷ []), SidecarNode) ∷ ((116 ∷ []), TdxPageTables) ∷ [])
+
+-- `y`, `n`
+abbrev pub splitOf : List ℕ → Option Bool
+splitOf = lookup (((121 ∷ []), true) ∷ ((110 ∷ []), false) ∷ [])
+
+-- `-`, which stands for a value that is absent
+abbrev pub absent : List ℕ
+absent = 45 ∷ []
+
+-- a number, or absent
+abbrev pub optionalOf : List ℕ → Option OptionU64
+optionalOf f = cond (sameBytes f absent) (some u64.None) (after (numberOf f) (λ n. some (u64.Some n)))
+
+-- a node: a number of at most ffffffff
+abbrev pub nodeOf : List ℕ → Option ℕ
+nodeOf f = after (numberOf f) (λ n. cond (leb n 4294967295) (some n) none)
+
+-- a node, or absent
+abbrev pub optionalNodeOf : List ℕ → Option OptionU32
+optionalNodeOf f = cond (sameBytes f absent) (some u32.None) (after (nodeOf f) (λ n. some (u32.Some n)))
+
+-- `pages`
+abbrev pub pagesWord : List ℕ
+pagesWord = 112 ∷ 97 ∷ 103 ∷ 101 ∷ 115 ∷ []
+
+-- the kinds of pool that have no pages: `off`, `release`, `debug`
+abbrev pub kindWithoutPages : List ℕ → Option Vtl2GpaPoolConfig
+kindWithoutPages = lookup (
+    ((111 ∷ 102 ∷ 102 ∷ []), Off)
+    ∷ ((114 ∷ 101 ∷ 108 ∷ 101 ∷ 97 ∷ 115 ∷ 101 ∷ []), Heuristics Release)
+    ∷ ((100 ∷ 101 ∷ 98 ∷ 117 ∷ 103 ∷ []), Heuristics Debug)
+    ∷ [])
+
+-- a kind of pool and its pages: a number where the kind is `pages`, else absent
+abbrev pub configOf : List ℕ → List ℕ → Option Vtl2GpaPoolConfig
+configOf kind pages =
+    cond (sameBytes kind pagesWord)
+    (after (numberOf pages) (λ n. some (Pages n)))
+    (cond (sameBytes pages absent) (kindWithoutPages kind) none)
+
+-- what the answers of the readers stand for
+abbrev pub modeIn : ModeField → Option MemoryAllocationMode
+modeIn (mode-field.Is x) = some x
+modeIn mode-field.Malformed = none
+
+abbrev pub isolationIn : IsolationField → Option IsolationType
+isolationIn (isolation-field.Is x) = some x
+isolationIn isolation-field.Malformed = none
+
+abbrev pub entryTypeIn : EntryTypeField → Option MemoryMapEntryType
+entryTypeIn (entry-type-field.Is x) = some x
+entryTypeIn entry-type-field.Malformed = none
+
+abbrev pub policyIn : PolicyField → Option AllocationPolicy
+policyIn (policy-field.Is x) = some x
+policyIn policy-field.Malformed = none
+
+abbrev pub kindIn : KindField → Option AllocationType
+kindIn (kind-field.Is x) = some x
+kindIn kind-field.Malformed = none
+
+abbrev pub splitIn : SplitField → Option Bool
+splitIn (split-field.Is x) = some x
+splitIn split-field.Malformed = none
+
+abbrev pub optionalIn : OptionalField → Option OptionU64
+optionalIn (optional-field.Is x) = some x
+optionalIn optional-field.Malformed = none
+
+abbrev pub nodeIn : NodeField → Option ℕ
+nodeIn (node-field.Is x) = some x
+nodeIn node-field.Malformed = none
+
+abbrev pub optionalNodeIn : OptionalNodeField → Option OptionU32
+optionalNodeIn (optional-node-field.Is x) = some x
+optionalNodeIn optional-node-field.Malformed = none
+
+abbrev pub configIn : ConfigField → Option Vtl2GpaPoolConfig
+configIn (config-field.Is x) = some x
+configIn config-field.Malformed = none

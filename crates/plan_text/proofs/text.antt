@@ -1,0 +1,2 @@
+-- The proofs of `text`.
+pub mod Laws

@@ -1,0 +1,5 @@
+pub mod Order
+pub mod OrderStep
+pub mod Text
+pub mod Plan
+pub mod Laws
