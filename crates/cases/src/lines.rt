@@ -5,9 +5,9 @@ use super::case::Numbers;
 use super::case::low_8_bits;
 use super::case::low_32_bits;
 use super::ranges::place;
+use host_params::MemoryVtlType;
 use memory_range::MemoryRange;
 use plan_output::LINE_SIZE;
-use plan_output::MemoryVtlType;
 use plan_output::Put;
 
 fn wide(byte: u8) -> u64 {

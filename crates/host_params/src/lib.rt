@@ -1,5 +1,5 @@
 // The plain types that several layers of the planner share, by the Rust's names: what the host and
-// the command line say of a guest, and what a request for memory asks.
+// the command line say of a guest, what a request for memory asks, and what memory is for.
 use memory_range::MemoryRange;
 
 // A number, or none: the Rust's `Option<u64>`.
@@ -66,4 +66,18 @@ pub enum AllocationType {
     GpaPool,
     SidecarNode,
     TdxPageTables,
+}
+
+// What a range of the RAM is for, as it is reported. Free and used RAM is `Ram`.
+pub enum MemoryVtlType {
+    Ram,
+    Config,
+    SidecarImage,
+    SidecarNode,
+    Reserved,
+    GpaPool,
+    TdxPageTables,
+    BootshimLogBuffer,
+    PersistedStateHeader,
+    PersistedStatePayload,
 }

@@ -5,8 +5,8 @@ use mathlib.Core.List.{List, [], _∷_, _++_}
 use lib.ListN.{length, drop}
 use Rattle.memory_range.specs.declared.range.MemoryRange.{MemoryRange}
 use Rattle.plan_fields.specs.Cut.{tab, newline, joinWith}
-use Rattle.plan_output.specs.declared.line.MemoryVtlType.{MemoryVtlType}
-use Rattle.plan_output.specs.declared.line.MemoryVtlType.the-variants.{Ram, Config, SidecarImage, SidecarNode, Reserved, GpaPool, TdxPageTables, BootshimLogBuffer, PersistedStateHeader, PersistedStatePayload}
+use Rattle.host_params.specs.declared.MemoryVtlType.{MemoryVtlType}
+use Rattle.host_params.specs.declared.MemoryVtlType.the-variants.{Ram, Config, SidecarImage, SidecarNode, Reserved, GpaPool, TdxPageTables, BootshimLogBuffer, PersistedStateHeader, PersistedStatePayload}
 use Rattle.plan_output.specs.Number.{hexOf, decimalOf}
 
 -- fields with a tab between each two, and a newline behind the last

@@ -3,7 +3,6 @@ mod line;
 mod put;
 
 pub use line::LINE_SIZE;
-pub use line::MemoryVtlType;
 pub use line::write_got;
 pub use line::write_map;
 pub use line::write_no;

@@ -6,6 +6,7 @@ ghost use Rattle.plan_output.specs.Number.{hexOf};
 ghost use Rattle.plan_output.specs.Line.{rangeLine, ramLine, poolLine, gotLine, noLine, mapLine, written};
 use super::put::put_field;
 use super::put::put_number_field;
+use host_params::MemoryVtlType;
 use memory_range::MemoryRange;
 use plan_fields::NEWLINE;
 use plan_fields::TAB;
@@ -13,20 +14,6 @@ use plan_fields::TAB;
 // The bytes of the longest line: `map`, two numbers of 16 digits, a type of 13 letters, and the byte
 // behind each of the four.
 pub const LINE_SIZE: usize = 3 + 1 + 16 + 1 + 16 + 1 + 13 + 1;
-
-// What a range is for, as a `map` line says it. Free and used RAM is `Ram`.
-pub enum MemoryVtlType {
-    Ram,
-    Config,
-    SidecarImage,
-    SidecarNode,
-    Reserved,
-    GpaPool,
-    TdxPageTables,
-    BootshimLogBuffer,
-    PersistedStateHeader,
-    PersistedStatePayload,
-}
 
 // A line of a word, a range and a last field.
 fn write_range_line(

@@ -8,8 +8,8 @@ use native.Mathlib.Nat.{zero-add}
 use lib.ListN.{length, length-append, length-drop}
 use Rattle.memory_range.specs.declared.range.MemoryRange.{MemoryRange}
 use Rattle.plan_fields.specs.Cut.{tab, newline}
-use Rattle.plan_output.specs.declared.line.MemoryVtlType.{MemoryVtlType}
-use Rattle.plan_output.specs.declared.line.MemoryVtlType.the-variants.{Ram, Config, SidecarImage, SidecarNode, Reserved, GpaPool, TdxPageTables, BootshimLogBuffer, PersistedStateHeader, PersistedStatePayload}
+use Rattle.host_params.specs.declared.MemoryVtlType.{MemoryVtlType}
+use Rattle.host_params.specs.declared.MemoryVtlType.the-variants.{Ram, Config, SidecarImage, SidecarNode, Reserved, GpaPool, TdxPageTables, BootshimLogBuffer, PersistedStateHeader, PersistedStatePayload}
 use Rattle.plan_output.specs.Number.{hexOf, decimalOf}
 use Rattle.plan_output.specs.Put.{putAt}
 use Rattle.plan_output.specs.Line.{rangeLine, ramLine, poolLine, gotLine, noLine, typeWord, mapLine, written}
