@@ -1,24 +1,25 @@
 // Replays stored answers. A line of a data file is the name of an operation and lists of numbers, the
 // lists parted by `/`, the last one by `=`: that one is what the operation answers to the others. In the
-// file of texts the name is followed by a text. A line whose answer differs is printed; the last line
-// of each file counts.
+// file of texts the name is followed by a text. A line with an answer that differs is printed; the last
+// line of each file counts.
 mod case;
 mod decode;
 mod lines;
 mod lists;
 mod ranges;
 mod records;
+mod sizes;
 mod steps;
 mod text;
 mod texts;
 
 use libc::STDOUT_FILENO;
 
-// Whether the line holds a case, and whether its answer differs.
+// Whether the line holds cases, and how many; and whether an answer differs.
 enum Replayed {
     NoCase,
-    Same,
-    Differs,
+    Same(u64),
+    Differs(u64),
 }
 
 // Whose answers a data file stores.
@@ -26,6 +27,7 @@ enum Layer {
     MemoryRange,
     PlanText,
     PlanOutput,
+    DmaHint,
 }
 
 // Whether the line's answer is the one that it stores.
@@ -47,6 +49,18 @@ fn is_same(line: &[u8], layer: Layer) -> bool {
             let c = text::read_case(line);
             case::is_answer(c, lines::answer(op, c))
         }
+        Layer::DmaHint => {
+            let c = text::read_case(line);
+            case::is_answer(c, sizes::answer(op, c))
+        }
+    }
+}
+
+// How many cases the line holds.
+fn cases_in(line: &[u8], layer: Layer) -> u64 {
+    match layer {
+        Layer::DmaHint => sizes::cases_in(text::first_word(line), text::read_case(line)),
+        _ => 1,
     }
 }
 
@@ -58,16 +72,17 @@ fn replay_line(line: &[u8], layer: Layer) -> Replayed {
     if line[0] == b'#' {
         return Replayed::NoCase;
     }
+    let cases = cases_in(line, layer);
     if is_same(line, layer) {
-        return Replayed::Same;
+        return Replayed::Same(cases);
     }
     io::write_all(STDOUT_FILENO, b"differs: ");
     io::write_all(STDOUT_FILENO, line);
     io::write_all(STDOUT_FILENO, b"\n");
-    Replayed::Differs
+    Replayed::Differs(cases)
 }
 
-// How many cases were replayed, and how many differ.
+// How many cases were replayed, and how many stand in lines that hold a wrong answer.
 struct Counts {
     cases: u64,
     differing: u64,
@@ -76,13 +91,13 @@ struct Counts {
 fn counted(counts: Counts, line: Replayed) -> Counts {
     match line {
         Replayed::NoCase => counts,
-        Replayed::Same => Counts {
-            cases: std::num::wrapping_add_u64(counts.cases, 1),
+        Replayed::Same(cases) => Counts {
+            cases: std::num::wrapping_add_u64(counts.cases, cases),
             differing: counts.differing,
         },
-        Replayed::Differs => Counts {
-            cases: std::num::wrapping_add_u64(counts.cases, 1),
-            differing: std::num::wrapping_add_u64(counts.differing, 1),
+        Replayed::Differs(cases) => Counts {
+            cases: std::num::wrapping_add_u64(counts.cases, cases),
+            differing: std::num::wrapping_add_u64(counts.differing, cases),
         },
     }
 }
@@ -124,4 +139,5 @@ fn main() {
     replay_file(b"memory_range.txt", Layer::MemoryRange);
     replay_file(b"plan_text.txt", Layer::PlanText);
     replay_file(b"plan_output.txt", Layer::PlanOutput);
+    replay_file(b"dma_hint.txt", Layer::DmaHint);
 }

@@ -1,0 +1,2 @@
+-- The proofs of `lookup`.
+pub mod Laws

@@ -1,0 +1,35 @@
+-- The worked examples (docs/SPEC.md, each in the section of its rule), P1 to P7, in one table.
+use Prim.Native.Nat.{ℕ, _*_}
+use mathlib.Core.Path.{_≡_}
+use mathlib.Core.List.{List, [], _∷_}
+use Rattle.host_params.specs.declared.Vtl2GpaPoolLookupTable.{Vtl2GpaPoolLookupTable}
+use Rattle.host_params.specs.declared.Vtl2GpaPoolLookupTable.the-variants.{Release, Debug}
+use Rattle.dma_hint.specs.Hint.{dmaHint}
+
+-- the hint of a table for so many processors and so many MiB of memory, in pages
+pub data Example : Type 0 where
+  hint : Vtl2GpaPoolLookupTable → ℕ → ℕ → ℕ → Example
+
+-- that the definitions give an example's answer
+abbrev pub Holds : Example → Type 0
+Holds (hint table processors mib pages) = dmaHint table processors (mib * 1048576) ≡ pages
+
+abbrev pub AllHold : List Example → Type 0
+AllHold [] = Unit
+AllHold (e ∷ es) = Holds e × AllHold es
+
+abbrev pub examples : List Example
+examples =
+    -- P1: an exact row. P2: a row of the count, but of other memory.
+    hint Release 2 96 512 ∷
+    hint Release 2 120 1024 ∷
+    -- P3, P4: no row of the count nor of a lower one, on both sides of a step of 2 MiB.
+    hint Release 1 101 512 ∷
+    hint Release 1 102 1024 ∷
+    -- P5: rows of the next lower count only; with the row above it would be 1,536.
+    hint Release 3 140 1024 ∷
+    -- P6: the quotient is cut down before the step; raised it would be 3,584.
+    hint Release 4 389 3072 ∷
+    -- P7: the row's ratio is 124,000, so the smallest stays at 100,000.
+    hint Debug 4 449 1536 ∷
+    []
