@@ -23,4 +23,4 @@ extrapolate-spec =
     (search needs)
     (search needs)
     round-up-to-2mb-requires
-    (search needs))
+    (λ c. c .round-up-to-2mb .ensures))
