@@ -8,6 +8,7 @@ mod lines;
 mod lists;
 mod ranges;
 mod records;
+mod selections;
 mod sizes;
 mod steps;
 mod text;
@@ -28,6 +29,7 @@ enum Layer {
     PlanText,
     PlanOutput,
     DmaHint,
+    Vtl2Ram,
 }
 
 // Whether the line's answer is the one that it stores.
@@ -52,6 +54,10 @@ fn is_same(line: &[u8], layer: Layer) -> bool {
         Layer::DmaHint => {
             let c = text::read_case(line);
             case::is_answer(c, sizes::answer(op, c))
+        }
+        Layer::Vtl2Ram => {
+            let c = text::read_case(line);
+            case::is_answer(c, selections::answer(op, c))
         }
     }
 }
@@ -140,4 +146,5 @@ fn main() {
     replay_file(b"plan_text.txt", Layer::PlanText);
     replay_file(b"plan_output.txt", Layer::PlanOutput);
     replay_file(b"dma_hint.txt", Layer::DmaHint);
+    replay_file(b"vtl2_ram.txt", Layer::Vtl2Ram);
 }

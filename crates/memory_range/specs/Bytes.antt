@@ -5,12 +5,17 @@ use mathlib.Core.Bool.{cond}
 use mathlib.Core.List.{List, [], _∷_}
 use mathlib.Core.Option.{Option, none, some}
 use Rattle.memory_range.specs.declared.range.MemoryRange.{MemoryRange}
-use Rattle.memory_range.specs.Range.{holds}
+use Rattle.memory_range.specs.Range.{lengthOf, holds}
 
 -- how many items of the list hold the byte at a
 abbrev pub holders : List MemoryRange → ℕ → ℕ
 holders [] a = 0
 holders (r ∷ rs) a = cond (holds r a) 1 0 + holders rs a
+
+-- the bytes of all items, as the sum of their lengths
+abbrev pub byteCount : List MemoryRange → ℕ
+byteCount [] = 0
+byteCount (r ∷ rs) = lengthOf r + byteCount rs
 
 -- which item holds the byte at a, the first one if there are several; items are counted from k
 abbrev pub itemFrom : ℕ → List MemoryRange → ℕ → Option ℕ

@@ -2,9 +2,11 @@
 pub mod Align
 pub mod Boundaries
 pub mod Bytes
+pub mod Count
 pub mod List
 pub mod Merge
 pub mod Node
+pub mod Picked
 pub mod Pieces
 pub mod Power
 pub mod Range

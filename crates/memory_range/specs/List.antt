@@ -35,3 +35,8 @@ endsOf (x ∷ xs) = x .range .end ∷ endsOf xs
 abbrev pub tagsOf : List TaggedRange → List ℕ
 tagsOf [] = []
 tagsOf (x ∷ xs) = x .tag ∷ tagsOf xs
+
+-- the ranges of tagged ranges
+abbrev pub rangesIn : List TaggedRange → List MemoryRange
+rangesIn [] = []
+rangesIn (x ∷ xs) = x .range ∷ rangesIn xs

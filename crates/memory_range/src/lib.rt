@@ -16,6 +16,8 @@ mod subtract;
 mod valid;
 mod walk;
 
+pub use list::range_count;
+pub use list::tagged_count;
 pub use merge::MergeStep;
 pub use merge::merge_adjacent_ranges;
 pub use node::NodeCount;

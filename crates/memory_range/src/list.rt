@@ -4,7 +4,7 @@ ghost use lib.ListN.{length};
 ghost use Rattle.memory_range.specs.List.{rangesOf, taggedOf};
 
 // How many ranges two slices hold.
-pub(crate) fn range_count<'a>(starts: &'a [u64], ends: &'a [u64]) -> usize
+pub fn range_count<'a>(starts: &'a [u64], ends: &'a [u64]) -> usize
     ensures { λ r. ⌜ r ≡ length (rangesOf (now (starts .entry)) (now (ends .entry))) ⌝ }
 {
     if ends.len() <= starts.len() {
@@ -14,7 +14,7 @@ pub(crate) fn range_count<'a>(starts: &'a [u64], ends: &'a [u64]) -> usize
 }
 
 // How many tagged ranges three slices hold.
-pub(crate) fn tagged_count<'a>(starts: &'a [u64], ends: &'a [u64], tags: &'a [u32]) -> usize
+pub fn tagged_count<'a>(starts: &'a [u64], ends: &'a [u64], tags: &'a [u32]) -> usize
     ensures { λ r. ⌜ r ≡ length (taggedOf (now (starts .entry)) (now (ends .entry)) (now (tags .entry))) ⌝ }
 {
     if ends.len() <= starts.len() {

@@ -11,7 +11,7 @@ use lib.Dec.{leb}
 use lib.ListN.{length}
 use borrow.Author.Tests.{leb-true, leb-false, lt-ltb, le-ltb, le-leb, lt-leb, eq-eqb, ne-eqb}
 use Rattle.memory_range.specs.declared.range.MemoryRange.{MemoryRange}
-use Rattle.memory_range.specs.Bytes.{itemFrom, Ordered}
+use Rattle.memory_range.specs.Bytes.{itemFrom, Ordered, All}
 use Rattle.memory_range.specs.Walk.{boundaries, Boundary, left, right, mergeHead, allRight, mergeBoundaries, openItem}
 use Rattle.memory_range.specs.Laws.Bytes.{Place, below, inside, above, place}
 
@@ -83,6 +83,30 @@ head-count b bs (c ∷ cs) rest = go (leb b c) (head-count b bs cs rest)
 pub merge-count : (bs cs : List ℕ) → length (mergeBoundaries bs cs) ≡ length bs + length cs
 merge-count [] cs = omega (arith, right-count cs)
 merge-count (b ∷ bs) cs = omega (arith, head-count b bs cs (merge-count bs))
+
+abbrev pub address : Boundary → ℕ
+address (left b) = b
+address (right c) = c
+
+-- what holds of the boundaries of both holds of the merged list's, in whatever order they are
+module _ (P : ℕ → Type 0) where
+  right-all : (cs : List ℕ) → All P cs → All (λ m. P (address m)) (allRight cs)
+  right-all [] h = tt
+  right-all (c ∷ cs) h = (h .0, right-all cs (h .1))
+
+  head-all : (b : ℕ) (bs cs : List ℕ) → P b → All P cs → ((ds : List ℕ) → All P ds → All (λ m. P (address m)) (mergeBoundaries bs ds))
+      → All (λ m. P (address m)) (mergeHead b (mergeBoundaries bs) cs)
+  head-all b bs [] p h rest = (p, rest [] tt)
+  head-all b bs (c ∷ cs) p h rest = go (leb b c) (head-all b bs cs p (h .1) rest)
+    where
+      go : (t : Bool) → All (λ m. P (address m)) (mergeHead b (mergeBoundaries bs) cs)
+          → All (λ m. P (address m)) (cond t (left b ∷ mergeBoundaries bs (c ∷ cs)) (right c ∷ mergeHead b (mergeBoundaries bs) cs))
+      go true later = (p, rest (c ∷ cs) h)
+      go false later = (h .0, later)
+
+  pub merge-all : (bs cs : List ℕ) → All P bs → All P cs → All (λ m. P (address m)) (mergeBoundaries bs cs)
+  merge-all [] cs h k = right-all cs k
+  merge-all (b ∷ bs) cs h k = head-all b bs cs (h .0) k (λ ds. merge-all bs ds (h .1))
 
 -- the boundaries of a list: two for each item, ascending if the list is in order
 pub boundaries-length : (l : List MemoryRange) → length (boundaries l) ≡ 2 * length l

@@ -1,16 +1,17 @@
 -- Laws of single bytes: where a byte lies relative to a range, and that at most one item of a list in
 -- order holds it.
-use Prim.Native.Nat.{ℕ, _+_, _≤_, _<_}
+use Prim.Native.Nat.{ℕ, suc, _+_, _-_, _≤_, _<_}
 use mathlib.Core.Path.{_≡_, refl}
 use mathlib.Core.Bool.{Bool, true, false, cond}
 use mathlib.Core.List.{List, [], _∷_}
-use mathlib.Core.Option.{Option, none, some}
+use mathlib.Core.Option.{Option, none, some, Option·some-injective, Option·none-ne-some}
 use native.Mathlib.Omega.{arith}
 use lib.Dec.{leb, ltb}
+use lib.ListN.{getD}
 use borrow.Author.Tests.{leb-true, leb-false, ltb-true, ltb-false, lt-leb}
 use Rattle.memory_range.specs.declared.range.MemoryRange.{MemoryRange}
 use Rattle.memory_range.specs.Range.{holds}
-use Rattle.memory_range.specs.Bytes.{holders, itemFrom, Ordered, All}
+use Rattle.memory_range.specs.Bytes.{holders, itemFrom, itemAt, Ordered, All}
 
 -- where a byte lies relative to a range, and whether the range holds it
 pub data Place (r : MemoryRange) (a : ℕ) : Type 0 where
@@ -57,6 +58,26 @@ holders-cons a r rs x y u o e = go (place r x)
 pub holders-items : (k a : ℕ) (l : List MemoryRange) (x : ℕ) → Ordered a l → holders l x ≡ counted (itemFrom k l x)
 holders-items k a [] x o = refl
 holders-items k a (r ∷ rs) x o = holders-cons a r rs x k (itemFrom (k + 1) rs x) o (holders-items (k + 1) (r .end) rs x (o .1 .1))
+
+-- the item that is told does hold the byte
+item-from : (k : ℕ) (l : List MemoryRange) (x i : ℕ) (d : MemoryRange) → itemFrom k l x ≡ some i → (k ≤ i) × (holds (getD l (i - k) d) x ≡ true)
+item-from k [] x i d e = absurd (Option·none-ne-some i e)
+item-from k (r ∷ rs) x i d e = go (holds r x) refl e (item-from (k + 1) rs x i d)
+  where
+    go : (t : Bool) → holds r x ≡ t → cond t (some k) (itemFrom (k + 1) rs x) ≡ some i
+        → (itemFrom (k + 1) rs x ≡ some i → (k + 1 ≤ i) × (holds (getD rs (i - (k + 1)) d) x ≡ true))
+        → (k ≤ i) × (holds (getD (r ∷ rs) (i - k) d) x ≡ true)
+    go true h f rest =
+        let same = Option·some-injective k i f in
+        let first : i - k ≡ 0 = omega arith in
+        (omega arith, rw first h)
+    go false h f rest =
+        let w = rest f in
+        let later : i - k ≡ suc (i - (k + 1)) = omega arith in
+        (omega arith, rw later (w .1))
+
+pub item-holds : (l : List MemoryRange) (x i : ℕ) (d : MemoryRange) → itemAt l x ≡ some i → holds (getD l i d) x ≡ true
+item-holds l x i d e = let whole : i - 0 ≡ i = omega arith in rw whole at (item-from 0 l x i d e .1)
 
 -- no byte lies in two items of a list in order
 pub ordered-once : (a : ℕ) (l : List MemoryRange) → Ordered a l → (x : ℕ) → holders l x ≤ 1

@@ -8,11 +8,10 @@ use native.Mathlib.Omega.{arith}
 use borrow.Author.Tests.{eqb-true, eq-eqb}
 use lib.Dec.{eqb}
 use lib.ListN.{length}
-use Rattle.memory_range.specs.declared.range.MemoryRange.{MemoryRange}
 use Rattle.memory_range.specs.declared.range.TaggedRange.{TaggedRange}
 use Rattle.memory_range.specs.Range.{range, holds}
 use Rattle.memory_range.specs.Bytes.{Ordered}
-use Rattle.memory_range.specs.List.{tagged}
+use Rattle.memory_range.specs.List.{tagged, rangesIn}
 use Rattle.memory_range.specs.Merge.{continues, mergeFirst, mergeAdjacent}
 use Rattle.memory_range.specs.Laws.Range.{cut-once}
 
@@ -72,10 +71,6 @@ pub merge-count : (xs : List TaggedRange) → length (mergeAdjacent xs) ≤ leng
 merge-count [] = omega arith
 merge-count (x ∷ xs) = omega (arith, first-count x (mergeAdjacent xs), merge-count xs)
 
-abbrev pub taggedRanges : List TaggedRange → List MemoryRange
-taggedRanges [] = []
-taggedRanges (x ∷ xs) = x .range ∷ taggedRanges xs
-
 -- how many ranges with the tag t hold the byte at b
 abbrev pub holdersOf : ℕ → List TaggedRange → ℕ → ℕ
 holdersOf t [] b = 0
@@ -83,7 +78,7 @@ holdersOf t (x ∷ xs) b = cond (eqb (x .tag) t && holds (x .range) b) 1 0 + hol
 
 -- ys is in order from a on, and has for each tag and byte as many holders as xs
 abbrev pub SameBytes : ℕ → List TaggedRange → List TaggedRange → Type 0
-SameBytes a xs ys = Ordered a (taggedRanges ys) × ((t b : ℕ) → holdersOf t ys b ≡ holdersOf t xs b)
+SameBytes a xs ys = Ordered a (rangesIn ys) × ((t b : ℕ) → holdersOf t ys b ≡ holdersOf t xs b)
 
 -- a byte of a range cut at m lies in one of the two parts
 cut-holders : (g : Bool) (s m e b : ℕ) → s ≤ m → m ≤ e
@@ -91,7 +86,7 @@ cut-holders : (g : Bool) (s m e b : ℕ) → s ≤ m → m ≤ e
 cut-holders false s m e b h k = refl
 cut-holders true s m e b h k = cut-once s m e b h (omega arith)
 
-first-bytes : (a : ℕ) (x : TaggedRange) (ys : List TaggedRange) → Ordered a (taggedRanges (x ∷ ys))
+first-bytes : (a : ℕ) (x : TaggedRange) (ys : List TaggedRange) → Ordered a (rangesIn (x ∷ ys))
     → SameBytes a (x ∷ ys) (mergeFirst x ys)
 first-bytes a x [] o = (o, λ t b. refl)
 first-bytes a x (y ∷ ys) o = first-cases (SameBytes a (x ∷ y ∷ ys)) x y ys joined (λ h. (o, λ t b. refl))
@@ -105,7 +100,7 @@ first-bytes a x (y ∷ ys) o = first-cases (SameBytes a (x ∷ y ∷ ys)) x y ys
               (omega (arith, cut-holders (eqb (x .tag) t) (x .range .start) (x .range .end) (y .range .end) b (omega arith) (omega arith))),
         )
 
-pub merge-bytes : (a : ℕ) (xs : List TaggedRange) → Ordered a (taggedRanges xs) → SameBytes a xs (mergeAdjacent xs)
+pub merge-bytes : (a : ℕ) (xs : List TaggedRange) → Ordered a (rangesIn xs) → SameBytes a xs (mergeAdjacent xs)
 merge-bytes a [] o = (o, λ t b. refl)
 merge-bytes a (x ∷ xs) o =
     let behind = merge-bytes (x .range .end) xs (o .1 .1) in

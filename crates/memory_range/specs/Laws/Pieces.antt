@@ -18,7 +18,7 @@ use Rattle.memory_range.specs.Bytes.{holders, Ordered, All}
 use Rattle.memory_range.specs.Walk.{Boundary, left, right, openItem, heldBy, pieceOf, sweep}
 use Rattle.memory_range.specs.Laws.Range.{held}
 use Rattle.memory_range.specs.Laws.Bytes.{ordered-before, counted, holders-cons}
-use Rattle.memory_range.specs.Laws.Boundaries.{passed, passed-at, passed-before, Merged, done, nextLeft, nextRight, merged-none, open-past}
+use Rattle.memory_range.specs.Laws.Boundaries.{address, passed, passed-at, passed-before, Merged, done, nextLeft, nextRight, merged-none, open-past}
 
 abbrev pub pieceRanges : List WalkPiece → List MemoryRange
 pieceRanges [] = []
@@ -141,3 +141,22 @@ sweep-count n m a i j (left b ∷ ms) =
     omega (arith, piece-count (next a b (openResult n m i j) (sweep n m b (i + 1) j ms)), sweep-count n m b (i + 1) j ms)
 sweep-count n m a i j (right b ∷ ms) =
     omega (arith, piece-count (next a b (openResult n m i j) (sweep n m b i (j + 1) ms)), sweep-count n m b i (j + 1) ms)
+
+-- along any boundaries of which P holds, P holds of both ends of each piece, if it holds of the address a
+-- or no item is open there
+module _ (P : ℕ → Type 0) where
+  abbrev pub Ends : WalkPiece → Type 0
+  Ends p = P (p .range .start) × P (p .range .end)
+
+  piece-ends : {a b : ℕ} {r : Option RangeWalkResult} {ps qs : List WalkPiece} → Next a b r ps qs
+      → ((h : RangeWalkResult) → r ≡ some h → P a) → P b → All Ends ps → All Ends qs
+  piece-ends (skip e) s t rest = rest
+  piece-ends (yield h e l) s t rest = ((s h e, t), rest)
+
+  pub sweep-ends : (n m a i j : ℕ) (ms : List Boundary) → ((h : RangeWalkResult) → openResult n m i j ≡ some h → P a)
+      → All (λ b. P (address b)) ms → All Ends (sweep n m a i j ms)
+  sweep-ends n m a i j [] s t = tt
+  sweep-ends n m a i j (left b ∷ ms) s t =
+      piece-ends (next a b (openResult n m i j) (sweep n m b (i + 1) j ms)) s (t .0) (sweep-ends n m b (i + 1) j ms (λ h e. t .0) (t .1))
+  sweep-ends n m a i j (right b ∷ ms) s t =
+      piece-ends (next a b (openResult n m i j) (sweep n m b i (j + 1) ms)) s (t .0) (sweep-ends n m b i (j + 1) ms (λ h e. t .0) (t .1))

@@ -1,17 +1,27 @@
 -- Valid ranges that ascend are in order: each has a byte, and no byte lies in two of them. A list that
 -- does not ascend has two neighbours out of order.
-use Prim.Native.Nat.{ℕ, suc, _<_}
+use Prim.Native.Nat.{ℕ, suc, _%_, _<_}
 use mathlib.Core.Path.{_≡_, refl}
-use mathlib.Core.Bool.{Bool, true, false, true≢false, and-eq-true-iff}
+use mathlib.Core.Bool.{Bool, true, false, true≢false, _&&_, and-eq-true-iff}
 use mathlib.Core.List.{List, [], _∷_}
 use native.Mathlib.Omega.{arith}
-use borrow.Author.Tests.{ltb-true, leb-true, leb-false, le-leb}
-use lib.Dec.{leb}
+use borrow.Author.Tests.{ltb-true, lt-ltb, leb-true, leb-false, le-leb, eqb-true, eq-eqb}
+use lib.Dec.{leb, ltb, eqb}
 use lib.ListN.{length, getD}
 use Rattle.memory_range.specs.declared.range.MemoryRange.{MemoryRange}
 use Rattle.memory_range.specs.Range.{range}
 use Rattle.memory_range.specs.Bytes.{Ordered}
-use Rattle.memory_range.specs.Valid.{validRange, allValid, ascendFrom, ascend}
+use Rattle.memory_range.specs.Valid.{pageSize, validRange, allValid, ascendFrom, ascend}
+
+-- a valid range has a byte, and starts and ends at a page; and such a range is valid
+pub valid-parts : (r : MemoryRange) → validRange r ≡ true → (r .start < r .end) × (r .start % pageSize ≡ 0) × (r .end % pageSize ≡ 0)
+valid-parts r v =
+    let w = and-eq-true-iff (ltb (r .start) (r .end)) (eqb (r .start % pageSize) 0 && eqb (r .end % pageSize) 0) .0 v in
+    let x = and-eq-true-iff (eqb (r .start % pageSize) 0) (eqb (r .end % pageSize) 0) .0 (w .1) in
+    (ltb-true _ _ (w .0), eqb-true _ _ (x .0), eqb-true _ _ (x .1))
+
+pub valid-range : (r : MemoryRange) → r .start < r .end → r .start % pageSize ≡ 0 → r .end % pageSize ≡ 0 → validRange r ≡ true
+valid-range r l p q = rw (lt-ltb (r .start) (r .end) l, eq-eqb (r .start % pageSize) 0 p, eq-eqb (r .end % pageSize) 0 q)
 
 pub valid-ordered : (a : ℕ) (rs : List MemoryRange) → allValid rs ≡ true → ascendFrom a rs ≡ true → Ordered a rs
 valid-ordered a [] v o = tt

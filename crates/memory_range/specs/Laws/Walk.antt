@@ -1,6 +1,6 @@
 -- What the walk of two lists of ranges means. For lists in order: its pieces are in order, cover the
 -- bytes of both lists and no others, and name the items that hold them. For any lists: the items that
--- pieces name exist, and there are at most two pieces for each item.
+-- pieces name exist, there are at most two pieces for each item, and they start and end where items do.
 use Prim.Native.Nat.{ℕ, _+_, _*_, _/_, _%_, _≤_, _<_, max}
 use mathlib.Core.Path.{_≡_, refl, ap, ap₂, sym, _∙_}
 use mathlib.Core.Bool.{Bool, true, false, cond, and-eq-true-iff}
@@ -19,9 +19,9 @@ use Rattle.memory_range.specs.Range.{holds}
 use Rattle.memory_range.specs.Bytes.{holders, itemAt, Ordered, All}
 use Rattle.memory_range.specs.Walk.{boundaries, mergeBoundaries, isOpen, openItem, heldBy, walkFrom, walk}
 use Rattle.memory_range.specs.Laws.Bytes.{counted, holders-items, all-map}
-use Rattle.memory_range.specs.Laws.Boundaries.{passed, boundaries-length, merge-count, merged-lists, item-open}
+use Rattle.memory_range.specs.Laws.Boundaries.{passed, boundaries-length, merge-all, merge-count, merged-lists, item-open}
 pub use Rattle.memory_range.specs.Laws.Pieces.{pieceRanges, resultAt}
-use Rattle.memory_range.specs.Laws.Pieces.{FromOpen, holders-pieces, pieces-say, sweep-ordered, sweep-at, sweep-count, sweep-open}
+use Rattle.memory_range.specs.Laws.Pieces.{FromOpen, holders-pieces, pieces-say, sweep-ordered, sweep-at, sweep-count, sweep-ends, sweep-open}
 
 -- the item of the left list that a piece names, and that of the right one
 abbrev pub leftItem : RangeWalkResult → Option ℕ
@@ -113,3 +113,12 @@ unfolding walkFrom
 walk-count ls rs =
     let ms = mergeBoundaries (boundaries ls) (boundaries rs) in
     omega (arith, sweep-count (length ls) (length rs) 0 0 0 ms, merge-count (boundaries ls) (boundaries rs), boundaries-length ls, boundaries-length rs)
+
+-- for any lists, a piece starts and ends at boundaries of the lists: what holds of these holds of its ends
+pub walk-ends : (P : ℕ → Type 0) (ls rs : List MemoryRange) → All P (boundaries ls) → All P (boundaries rs)
+    → All (λ p. P (p .range .start) × P (p .range .end)) (walk ls rs)
+unfolding walkFrom
+walk-ends P ls rs pl pr =
+    let ms = mergeBoundaries (boundaries ls) (boundaries rs) in
+    sweep-ends P (length ls) (length rs) 0 0 0 ms (λ h e. let z : _≡_ {A = ℕ} 0 1 = cc in absurd (omega arith))
+    (merge-all P (boundaries ls) (boundaries rs) pl pr)

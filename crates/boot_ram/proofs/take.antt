@@ -1,0 +1,2 @@
+-- Lemmas of the taking.
+pub mod Laws

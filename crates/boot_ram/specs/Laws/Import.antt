@@ -1,0 +1,135 @@
+-- What the import walk means where it is accepted: the free pieces hold the bytes of the free entries that no
+-- imported range holds, each on its node; and the imported ranges lie in the file, in the free entries or, under
+-- Tdx, in the page below 4 GiB.
+use Prim.Native.Nat.{ℕ, _-_, _^_, _%_, _≤_, _<_}
+use mathlib.Core.Path.{_≡_, refl, ap, _∙_}
+use mathlib.Core.Logic.{_⊎_, inl, inr, ⊎-elim}
+use mathlib.Core.Bool.{Bool, true, false, cond, _&&_, _||_, and-eq-true-iff}
+use mathlib.Core.List.{List, [], _∷_}
+use mathlib.Core.Option.{Option, none, some, Option·none-ne-some}
+use native.Mathlib.Omega.{arith}
+use lib.Dec.{eqb}
+use lib.ListN.{getD}
+use borrow.Author.Tests.{eqb-true}
+use Rattle.memory_range.specs.declared.range.MemoryRange.{MemoryRange}
+use Rattle.memory_range.specs.declared.range.TaggedRange.{TaggedRange}
+use Rattle.memory_range.specs.declared.walk.RangeWalkResult.{RangeWalkResult}
+use Rattle.memory_range.specs.declared.walk.RangeWalkResult.the-variants.{Left, Right, Both}
+use Rattle.memory_range.specs.declared.walk.WalkPiece.{WalkPiece}
+use Rattle.memory_range.specs.Bytes.{holders, itemAt, Ordered, All}
+use Rattle.memory_range.specs.List.{rangesIn}
+use Rattle.memory_range.specs.Range.{range, holds, containsRange}
+use Rattle.memory_range.specs.Valid.{pageSize}
+use Rattle.memory_range.specs.Walk.{boundaries, heldBy, walk}
+use Rattle.memory_range.specs.Laws.Bytes.{counted, holders-items, item-holds}
+use Rattle.memory_range.specs.Laws.Pieces.{resultAt}
+use Rattle.memory_range.specs.Laws.Range.{held, contains-bytes}
+use Rattle.memory_range.specs.Laws.Walk.{walk-at}
+use Rattle.host_params.specs.declared.IsolationType.{IsolationType}
+use Rattle.boot_ram.specs.File.{onNodeOf}
+use Rattle.boot_ram.specs.Held.{AtPage, holdersOn, freeIn, Paged}
+use Rattle.boot_ram.specs.Import.{isTdx, isExcused, isSkipped, importVerdict, importVerdicts, importWalk}
+use Rattle.boot_ram.specs.Verdict.{Verdict, pass, refuse}
+use Rattle.refusal.specs.Number.{importNotInMap}
+use Rattle.boot_ram.specs.Laws.Judged.{NotRefused, judged-accepted, accepted-none-refused}
+use Rattle.boot_ram.specs.Laws.Walks.{rangesFor, isNode, ranges-on}
+use Rattle.boot_ram.specs.Laws.Walks.{rightOnly, keptWith, kept, right-bytes, kept-ordered, kept-paged}
+
+module _ (i : IsolationType) (file : MemoryRange) (imports : List MemoryRange) (m : List TaggedRange) where
+  free-kept : (ps : List WalkPiece) → freeIn (importVerdicts i file imports m ps) ≡ kept m rightOnly ps
+  free-kept [] = refl
+  free-kept (p ∷ ps) = go (p .result) (free-kept ps)
+    where
+      not-free : (t : Bool) (vs : List Verdict) → freeIn (cond t pass (refuse importNotInMap) ∷ vs) ≡ freeIn vs
+      not-free true vs = refl
+      not-free false vs = refl
+
+      go : (h : RangeWalkResult) → freeIn (importVerdicts i file imports m ps) ≡ kept m rightOnly ps
+          → freeIn (importVerdict i file imports m (p .range) h ∷ importVerdicts i file imports m ps)
+          ≡ keptWith m (p .range) (rightOnly h) (kept m rightOnly ps)
+      go (Left k) e = not-free (isSkipped i file (getD imports k (range 0 0)) (p .range)) (importVerdicts i file imports m ps) ∙ e
+      go (Right j) e = ap (onNodeOf m j (p .range) ∷_) e
+      go (Both k j) e = e
+
+  -- a piece of the imported range k that holds the byte a is passed over
+  abbrev Skipped : ℕ → ℕ → Type 0
+  Skipped a k = (r : MemoryRange) × (holds r a ≡ true) × (isSkipped i file (getD imports k (range 0 0)) r ≡ true)
+
+  -- where no piece is refused, one that lies in an imported range alone is passed over
+  alone-skipped : (ps : List WalkPiece) (a k : ℕ) → All NotRefused (importVerdicts i file imports m ps) → resultAt ps a ≡ some (Left k) → Skipped a k
+  alone-skipped [] a k n e = absurd (Option·none-ne-some (Left k) e)
+  alone-skipped (p ∷ ps) a k n e = go (holds (p .range) a) refl (p .result) (n .0) e (alone-skipped ps a k (n .1))
+    where
+      not-refused : (t : Bool) → NotRefused (cond t pass (refuse importNotInMap)) → t ≡ true
+      not-refused true q = refl
+      not-refused false q = absurd q
+
+      go : (t : Bool) → holds (p .range) a ≡ t → (h : RangeWalkResult) → NotRefused (importVerdict i file imports m (p .range) h)
+          → cond t (some h) (resultAt ps a) ≡ some (Left k) → (resultAt ps a ≡ some (Left k) → Skipped a k) → Skipped a k
+      go false s h q f rest = rest f
+      go true s (Left j) q f rest = let same : j ≡ k = cc in (p .range, s, not-refused _ (rw same at q))
+      go true s (Right j) q f rest = let z : _≡_ {A = ℕ} 0 1 = cc in absurd (omega arith)
+      go true s (Both l j) q f rest = let z : _≡_ {A = ℕ} 0 1 = cc in absurd (omega arith)
+
+  -- a byte of an imported range in a piece that is passed over lies in the file or in the excused page
+  skipped-byte : (s r : MemoryRange) (a : ℕ) → holds s a ≡ true → holds r a ≡ true → isSkipped i file s r ≡ true
+      → (holds file a ≡ true) ⊎ ((isTdx i ≡ true) × (2 ^ 32 - pageSize ≤ a) × (a < 2 ^ 32))
+  skipped-byte s r a hs hr e = go (containsRange file s) refl e
+    where
+      go : (t : Bool) → containsRange file s ≡ t → (t || isExcused i r) ≡ true
+          → (holds file a ≡ true) ⊎ ((isTdx i ≡ true) × (2 ^ 32 - pageSize ≤ a) × (a < 2 ^ 32))
+      go true c f = inl (contains-bytes file s .0 c a hs)
+      go false c f =
+          let t = and-eq-true-iff (isTdx i) (eqb (r .start) (2 ^ 32 - pageSize) && eqb (r .end) (2 ^ 32)) .0 f in
+          let u = and-eq-true-iff (eqb (r .start) (2 ^ 32 - pageSize)) (eqb (r .end) (2 ^ 32)) .0 (t .1) in
+          let start = eqb-true (r .start) (2 ^ 32 - pageSize) (u .0) in
+          let end = eqb-true (r .end) (2 ^ 32) (u .1) in
+          let b = held r a .0 hr in
+          inr (t .0, omega arith, omega arith)
+
+paged-ends : (rs : List MemoryRange) → All (λ r. (r .start % 4096 ≡ 0) × (r .end % 4096 ≡ 0)) rs → All AtPage (boundaries rs)
+paged-ends [] h = tt
+paged-ends (r ∷ rs) h = (h .0 .0, (h .0 .1, paged-ends rs (h .1)))
+
+module _ (i : IsolationType) (file : MemoryRange) (imports : List MemoryRange) (m : List TaggedRange)
+    (accepted : importWalk i file imports m .refusal ≡ none) (oi : Ordered 0 imports) (om : Ordered 0 (rangesIn m)) where
+  free-is : importWalk i file imports m .free ≡ kept m rightOnly (walk imports (rangesIn m))
+  unfolding importWalk
+  free-is =
+      judged-accepted 0 0 (importVerdicts i file imports m (walk imports (rangesIn m))) accepted .0
+      ∙ free-kept i file imports m (walk imports (rangesIn m))
+
+  -- the free pieces hold the bytes that no imported range holds
+  free-for : (t : ℕ → Bool) (a : ℕ)
+      → holders (rangesFor t (importWalk i file imports m .free)) a ≡ cond (eqb (holders imports a) 0) (holders (rangesFor t m) a) 0
+  free-for t a = rw free-is (right-bytes imports m oi om t a)
+
+  pub import-free : (n a : ℕ) → holdersOn n (importWalk i file imports m .free) a ≡ cond (eqb (holders imports a) 0) (holdersOn n m a) 0
+  import-free n a = rw (ranges-on n (importWalk i file imports m .free), ranges-on n m) (free-for (isNode n) a)
+
+  -- they are nonempty, ascending and disjoint
+  pub import-free-ordered : Ordered 0 (rangesIn (importWalk i file imports m .free))
+  import-free-ordered = rw free-is (kept-ordered imports m oi om rightOnly)
+
+  -- and start and end at pages
+  pub import-paged : All (λ r. (r .start % 4096 ≡ 0) × (r .end % 4096 ≡ 0)) imports → Paged m → Paged (importWalk i file imports m .free)
+  import-paged pi pm = rw free-is (kept-paged imports m oi om rightOnly (paged-ends imports pi) pm)
+
+  -- each imported byte lies in the file, in a free piece, or, under Tdx, in the page below 4 GiB
+  pub import-in-map : (a : ℕ) → 0 < holders imports a
+      → (holds file a ≡ true) ⊎ ((0 < holders (rangesIn m) a) ⊎ ((isTdx i ≡ true) × (2 ^ 32 - pageSize ≤ a) × (a < 2 ^ 32)))
+  unfolding importWalk
+  import-in-map a h =
+      go (itemAt imports a) refl (holders-items 0 0 imports a oi) (itemAt (rangesIn m) a) (holders-items 0 0 (rangesIn m) a om)
+      (walk-at imports (rangesIn m) oi om a)
+    where
+      go : (u : Option ℕ) → itemAt imports a ≡ u → holders imports a ≡ counted u → (v : Option ℕ) → holders (rangesIn m) a ≡ counted v
+          → resultAt (walk imports (rangesIn m)) a ≡ heldBy u v
+          → (holds file a ≡ true) ⊎ ((0 < holders (rangesIn m) a) ⊎ ((isTdx i ≡ true) × (2 ^ 32 - pageSize ≤ a) × (a < 2 ^ 32)))
+      go none p c v d e = absurd (omega arith)
+      go (some k) p c (some j) d e = inr (inl (omega arith))
+      go (some k) p c none d e =
+          let none-refused = accepted-none-refused 0 0 (importVerdicts i file imports m (walk imports (rangesIn m))) accepted in
+          let s = alone-skipped i file imports m (walk imports (rangesIn m)) a k none-refused e in
+          ⊎-elim inl (λ x. inr (inr x))
+          (skipped-byte i file imports m (getD imports k (range 0 0)) (s .0) a (item-holds imports a k (range 0 0) p) (s .1) (s .2))

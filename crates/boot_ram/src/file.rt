@@ -1,0 +1,104 @@
+// The walk of the file's range with the map.
+ghost use mathlib.Core.Path.{_≡_};
+ghost use Rattle.memory_range.specs.List.{taggedOf, startsOf, endsOf, tagsOf};
+ghost use Rattle.boot_ram.specs.Verdict.{written};
+ghost use Rattle.boot_ram.specs.File.{fileWalk, filePieces};
+use crate::put::put_piece;
+use memory_range::MemoryRange;
+use memory_range::RangeWalkResult;
+use memory_range::WalkCursor;
+use memory_range::WalkStep;
+use memory_range::tagged_count;
+use memory_range::walk_ranges;
+use refusal::FILE_NOT_IN_MAP;
+use refusal::TOO_MANY_PIECES;
+
+// The chosen RAM has at most so many entries.
+pub const MAX_VTL2_RAM_RANGES: usize = 64;
+
+// A walk can hold at most so many free pieces.
+pub const MAX_FREE_PIECES: usize = 1024;
+
+// How many pieces are chosen, and how many are free; or the refusal's number.
+pub enum FilePieces {
+    Count(usize, usize),
+    Refused(u8),
+}
+
+// Pieces of the file are chosen RAM, the rest of the map is free.
+pub fn walk_file<'a>(
+    file: MemoryRange,
+    map_starts: &'a [u64],
+    map_ends: &'a [u64],
+    map_nodes: &'a [u32],
+    ram_starts: &mut [u64; MAX_VTL2_RAM_RANGES],
+    ram_ends: &mut [u64; MAX_VTL2_RAM_RANGES],
+    ram_nodes: &mut [u32; MAX_VTL2_RAM_RANGES],
+    free_starts: &mut [u64; MAX_FREE_PIECES],
+    free_ends: &mut [u64; MAX_FREE_PIECES],
+    free_nodes: &mut [u32; MAX_FREE_PIECES],
+) -> FilePieces
+    ensures { λ r. ⌜
+        r ≡ filePieces (fileWalk file (taggedOf (now («map_starts» .entry)) (now («map_ends» .entry)) (now («map_nodes» .entry))))
+        ⌝ }
+    ensures { λ _. ⌜
+        now («ram_starts» .exit)
+        ≡ written 0 (startsOf (fileWalk file (taggedOf (now («map_starts» .entry)) (now («map_ends» .entry)) (now («map_nodes» .entry))) .chosen)) (now («ram_starts» .entry))
+        ⌝ }
+    ensures { λ _. ⌜
+        now («ram_ends» .exit)
+        ≡ written 0 (endsOf (fileWalk file (taggedOf (now («map_starts» .entry)) (now («map_ends» .entry)) (now («map_nodes» .entry))) .chosen)) (now («ram_ends» .entry))
+        ⌝ }
+    ensures { λ _. ⌜
+        now («ram_nodes» .exit)
+        ≡ written 0 (tagsOf (fileWalk file (taggedOf (now («map_starts» .entry)) (now («map_ends» .entry)) (now («map_nodes» .entry))) .chosen)) (now («ram_nodes» .entry))
+        ⌝ }
+    ensures { λ _. ⌜
+        now («free_starts» .exit)
+        ≡ written 0 (startsOf (fileWalk file (taggedOf (now («map_starts» .entry)) (now («map_ends» .entry)) (now («map_nodes» .entry))) .free)) (now («free_starts» .entry))
+        ⌝ }
+    ensures { λ _. ⌜
+        now («free_ends» .exit)
+        ≡ written 0 (endsOf (fileWalk file (taggedOf (now («map_starts» .entry)) (now («map_ends» .entry)) (now («map_nodes» .entry))) .free)) (now («free_ends» .entry))
+        ⌝ }
+    ensures { λ _. ⌜
+        now («free_nodes» .exit)
+        ≡ written 0 (tagsOf (fileWalk file (taggedOf (now («map_starts» .entry)) (now («map_ends» .entry)) (now («map_nodes» .entry))) .free)) (now («free_nodes» .entry))
+        ⌝ }
+{
+    let count = tagged_count(map_starts, map_ends, map_nodes);
+    let starts = [file.start];
+    let ends = [file.end];
+    let mut at = WalkCursor::start();
+    let mut chosen = 0;
+    let mut free = 0;
+    loop {
+        match walk_ranges(&starts, &ends, &map_starts[..count], &map_ends[..count], at) {
+            WalkStep::Piece(piece, next) => {
+                let range = piece.range;
+                let result = piece.result;
+                match result {
+                    RangeWalkResult::Left(_) => return FilePieces::Refused(FILE_NOT_IN_MAP),
+                    RangeWalkResult::Right(item) => {
+                        if MAX_FREE_PIECES <= free {
+                            return FilePieces::Refused(TOO_MANY_PIECES);
+                        }
+                        let node = map_nodes[item];
+                        put_piece(free_starts, free_ends, free_nodes, free, range, node);
+                        free += 1;
+                    }
+                    RangeWalkResult::Both(_, item) => {
+                        if MAX_VTL2_RAM_RANGES <= chosen {
+                            return FilePieces::Refused(TOO_MANY_PIECES);
+                        }
+                        let node = map_nodes[item];
+                        put_piece(ram_starts, ram_ends, ram_nodes, chosen, range, node);
+                        chosen += 1;
+                    }
+                }
+                at = next;
+            }
+            WalkStep::End => return FilePieces::Count(chosen, free),
+        }
+    }
+}

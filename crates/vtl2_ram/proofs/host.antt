@@ -1,0 +1,2 @@
+-- Lemmas of host mode.
+pub mod Laws

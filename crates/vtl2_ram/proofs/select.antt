@@ -1,0 +1,2 @@
+-- What the proofs of selection share.
+pub mod Laws

@@ -1,0 +1,26 @@
+-- What a selection comes to (docs/SPEC.md, section 19).
+use Prim.Native.Nat.{ℕ}
+use mathlib.Core.List.{List, [], _∷_}
+use mathlib.Core.Option.{Option, none, some}
+use Rattle.memory_range.specs.declared.range.TaggedRange.{TaggedRange}
+
+-- a refusal's number, or the chosen entries with their nodes, ascending by start
+pub data Choice : Type 0 where
+  refused : ℕ → Choice
+  chosen : List TaggedRange → Choice
+
+-- the chosen entries, none where refused
+abbrev pub entriesOf : Choice → List TaggedRange
+entriesOf (refused n) = []
+entriesOf (chosen xs) = xs
+
+-- a refusal, if there is one, and else what comes after
+abbrev pub unless : Option ℕ → Choice → Choice
+unless (some n) c = refused n
+unless none c = c
+
+-- rows are looked at downward: the first one that refuses
+abbrev pub downward : List (Option ℕ) → Option ℕ
+downward [] = none
+downward (some n ∷ rows) = some n
+downward (none ∷ rows) = downward rows

@@ -1,0 +1,44 @@
+-- Rows 4, 5 and 6 of the refusal chart, which hold in both modes (docs/SPEC.md, section 19).
+use Prim.Native.Nat.{ℕ}
+use mathlib.Core.Bool.{Bool, true, false, _&&_, not}
+use mathlib.Core.List.{List, [], _∷_}
+use mathlib.Core.Option.{Option, none, some}
+use lib.Dec.{leb, eqb}
+use lib.ListN.{length}
+use Rattle.memory_range.specs.declared.range.MemoryRange.{MemoryRange}
+use Rattle.memory_range.specs.Valid.{validRange, allValid, ascend}
+use Rattle.host_params.specs.declared.MemoryAllocationMode.{MemoryAllocationMode}
+use Rattle.host_params.specs.declared.MemoryAllocationMode.the-variants.{Host, Vtl2}
+use Rattle.boot_ram.specs.Verdict.{refusedIf}
+use Rattle.refusal.specs.Number.{rangeInvalid, rangesNotAscending, mapCount}
+use Rattle.vtl2_ram.specs.declared.rows.Rows.{Rows}
+use Rattle.vtl2_ram.specs.declared.rows.Rows.the-variants.{Passed, Refused}
+use Rattle.vtl2_ram.specs.Choice.{downward}
+
+abbrev pub isBoot : MemoryAllocationMode → Bool
+isBoot Host = false
+isBoot Vtl2 = true
+
+-- at most so many entries of the map, and imported ranges
+abbrev pub maxEntries : ℕ
+maxEntries = 1024
+
+abbrev pub maxImports : ℕ
+maxImports = 256
+
+-- row 6: a map of so many entries and so many imported ranges are within their bounds, and boot mode has a map
+abbrev pub countsGood : MemoryAllocationMode → ℕ → ℕ → Bool
+countsGood mode m i = leb m maxEntries && (leb i maxImports && not (isBoot mode && eqb m 0))
+
+-- row 4 over all ranges, then row 5 over both lists, then row 6
+unfoldable pub rowsRefusal : MemoryAllocationMode → MemoryRange → List MemoryRange → List MemoryRange → Option ℕ
+rowsRefusal mode file map imports =
+    downward
+    (refusedIf (not (validRange file && (allValid map && allValid imports))) rangeInvalid
+    ∷ refusedIf (not (ascend map && ascend imports)) rangesNotAscending
+    ∷ refusedIf (not (countsGood mode (length map) (length imports))) mapCount
+    ∷ [])
+
+abbrev pub rowsAs : Option ℕ → Rows
+rowsAs none = Passed
+rowsAs (some n) = Refused n
