@@ -5,11 +5,11 @@ use mathlib.Core.Option.{Option, none, some}
 use lib.ListN.{length, getD}
 use Rattle.memory_range.specs.declared.range.MemoryRange.{MemoryRange}
 use Rattle.memory_range.specs.declared.range.TaggedRange.{TaggedRange}
-use Rattle.memory_range.specs.declared.walk.RangeWalkResult.{RangeWalkResult}
-use Rattle.memory_range.specs.declared.walk.RangeWalkResult.the-variants.{Left, Right, Both}
-use Rattle.memory_range.specs.declared.walk.WalkPiece.{WalkPiece}
+use Rattle.range_lists.specs.declared.walk.RangeWalkResult.{RangeWalkResult}
+use Rattle.range_lists.specs.declared.walk.RangeWalkResult.the-variants.{Left, Right, Both}
+use Rattle.range_lists.specs.declared.walk.WalkPiece.{WalkPiece}
 use Rattle.memory_range.specs.List.{rangesIn, tagsOf}
-use Rattle.memory_range.specs.Walk.{walk}
+use Rattle.range_lists.specs.Walk.{walk}
 use Rattle.boot_ram.specs.declared.file.FilePieces.{FilePieces}
 use Rattle.boot_ram.specs.declared.file.FilePieces.the-variants.{Count, Refused}
 use Rattle.boot_ram.specs.Verdict.{Verdict, free, choose, refuse, Judged, judged}

@@ -1,14 +1,24 @@
--- Which bytes entries hold, by node; the laws of the parts are stated by it (docs/SPEC.md, section 19).
+-- The entries of a node, and which bytes entries hold; the laws of the parts are stated by it (docs/SPEC.md, section 19).
 use Prim.Native.Nat.{ℕ, _%_, _<_}
 use mathlib.Core.Path.{_≡_}
+use mathlib.Core.Bool.{cond}
 use mathlib.Core.List.{List, [], _∷_}
+use lib.Dec.{eqb}
 use Rattle.memory_range.specs.declared.range.MemoryRange.{MemoryRange}
 use Rattle.memory_range.specs.declared.range.TaggedRange.{TaggedRange}
-use Rattle.memory_range.specs.Bytes.{holders, All}
+use Rattle.memory_range.specs.Bytes.{holders, byteCount, All}
 use Rattle.memory_range.specs.List.{rangesIn}
 use Rattle.memory_range.specs.Valid.{pageSize}
-use Rattle.boot_ram.specs.Take.{onNode}
 use Rattle.boot_ram.specs.Verdict.{Verdict, free, choose, refuse, pass}
+
+-- the entries of a node
+abbrev pub onNode : ℕ → List TaggedRange → List TaggedRange
+onNode n [] = []
+onNode n (x ∷ xs) = cond (eqb (x .tag) n) (x ∷ onNode n xs) (onNode n xs)
+
+-- the bytes of entries
+abbrev pub bytesOf : List TaggedRange → ℕ
+bytesOf xs = byteCount (rangesIn xs)
 
 -- how many entries of node n hold the byte at a
 abbrev pub holdersOn : ℕ → List TaggedRange → ℕ → ℕ

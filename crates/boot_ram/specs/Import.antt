@@ -7,12 +7,12 @@ use lib.ListN.{getD}
 use Rattle.memory_range.specs.List.{rangesIn}
 use Rattle.memory_range.specs.declared.range.MemoryRange.{MemoryRange}
 use Rattle.memory_range.specs.declared.range.TaggedRange.{TaggedRange}
-use Rattle.memory_range.specs.declared.walk.RangeWalkResult.{RangeWalkResult}
-use Rattle.memory_range.specs.declared.walk.RangeWalkResult.the-variants.{Left, Right, Both}
-use Rattle.memory_range.specs.declared.walk.WalkPiece.{WalkPiece}
+use Rattle.range_lists.specs.declared.walk.RangeWalkResult.{RangeWalkResult}
+use Rattle.range_lists.specs.declared.walk.RangeWalkResult.the-variants.{Left, Right, Both}
+use Rattle.range_lists.specs.declared.walk.WalkPiece.{WalkPiece}
 use Rattle.memory_range.specs.Range.{range, containsRange, overlapRanges}
 use Rattle.memory_range.specs.Valid.{pageSize}
-use Rattle.memory_range.specs.Walk.{walk}
+use Rattle.range_lists.specs.Walk.{walk}
 use Rattle.host_params.specs.declared.IsolationType.{IsolationType}
 use Rattle.host_params.specs.declared.IsolationType.the-variants.{None, Vbs, Snp, Tdx, Cca}
 use Rattle.boot_ram.specs.File.{onNodeOf}

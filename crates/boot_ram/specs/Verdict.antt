@@ -2,14 +2,14 @@
 -- at the first one that breaks a rule or a bound (docs/SPEC.md, section 19). The bounds are judged
 -- piece by piece, so a refusal hides whatever would follow it: `judged` (document 01, the text under the chart).
 use Prim.Native.Nat.{ℕ, _+_}
-use mathlib.Core.Bool.{Bool, true, false, cond}
+use mathlib.Core.Bool.{cond}
 use mathlib.Core.List.{List, [], _∷_}
 use mathlib.Core.Option.{Option, none, some}
 use lib.Dec.{ltb}
 use lib.ListN.{length, set}
 use Rattle.memory_range.specs.declared.range.TaggedRange.{TaggedRange}
-use Rattle.boot_ram.specs.declared.count.Counted.{Counted}
-use Rattle.boot_ram.specs.declared.count.Counted.the-variants.{Count, Refused}
+use Rattle.refusal.specs.declared.answer.Counted.{Counted}
+use Rattle.refusal.specs.Answer.{countedAs}
 use Rattle.refusal.specs.Number.{tooManyPieces}
 
 -- a piece, with its node, is free or chosen; or the part refuses with a number; or passes over it
@@ -48,15 +48,11 @@ judged f c (choose x ∷ vs) = cond (ltb c maxChosen) (withChosen x (judged f (c
 judged f c (refuse n ∷ vs) = ends (some n)
 judged f c (pass ∷ vs) = judged f c vs
 
--- a refusal, if any, or a count, as an answer
-abbrev pub countedAs : Option ℕ → ℕ → Counted
-countedAs none n = Count n
-countedAs (some r) n = Refused r
-
+-- the refusal, if any, or how many are free, as an answer
 abbrev pub freeCounted : Judged → Counted
 freeCounted j = countedAs (j .refusal) (length (j .free))
 
--- with those that were chosen before
+-- or how many are chosen, with those that were before
 abbrev pub chosenCounted : ℕ → Judged → Counted
 chosenCounted c j = countedAs (j .refusal) (c + length (j .chosen))
 
@@ -64,8 +60,3 @@ chosenCounted c j = countedAs (j .refusal) (c + length (j .chosen))
 abbrev pub written : ℕ → List ℕ → List ℕ → List ℕ
 written k [] l = l
 written k (x ∷ xs) l = written (k + 1) xs (set l k x)
-
--- a rule that is broken refuses with its number
-abbrev pub refusedIf : Bool → ℕ → Option ℕ
-refusedIf true n = some n
-refusedIf false n = none

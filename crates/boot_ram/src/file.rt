@@ -3,18 +3,16 @@ ghost use mathlib.Core.Path.{_≡_};
 ghost use Rattle.memory_range.specs.List.{taggedOf, startsOf, endsOf, tagsOf};
 ghost use Rattle.boot_ram.specs.Verdict.{written};
 ghost use Rattle.boot_ram.specs.File.{fileWalk, filePieces};
-use crate::put::put_piece;
+use host_params::MAX_VTL2_RAM_RANGES;
 use memory_range::MemoryRange;
-use memory_range::RangeWalkResult;
-use memory_range::WalkCursor;
-use memory_range::WalkStep;
+use memory_range::put_range;
 use memory_range::tagged_count;
-use memory_range::walk_ranges;
+use range_lists::RangeWalkResult;
+use range_lists::WalkCursor;
+use range_lists::WalkStep;
+use range_lists::walk_ranges;
 use refusal::FILE_NOT_IN_MAP;
 use refusal::TOO_MANY_PIECES;
-
-// The chosen RAM has at most so many entries.
-pub const MAX_VTL2_RAM_RANGES: usize = 64;
 
 // A walk can hold at most so many free pieces.
 pub const MAX_FREE_PIECES: usize = 1024;
@@ -84,7 +82,7 @@ pub fn walk_file<'a>(
                             return FilePieces::Refused(TOO_MANY_PIECES);
                         }
                         let node = map_nodes[item];
-                        put_piece(free_starts, free_ends, free_nodes, free, range, node);
+                        put_range(free_starts, free_ends, free_nodes, free, range, node);
                         free += 1;
                     }
                     RangeWalkResult::Both(_, item) => {
@@ -92,7 +90,7 @@ pub fn walk_file<'a>(
                             return FilePieces::Refused(TOO_MANY_PIECES);
                         }
                         let node = map_nodes[item];
-                        put_piece(ram_starts, ram_ends, ram_nodes, chosen, range, node);
+                        put_range(ram_starts, ram_ends, ram_nodes, chosen, range, node);
                         chosen += 1;
                     }
                 }

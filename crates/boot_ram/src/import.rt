@@ -3,16 +3,16 @@ ghost use mathlib.Core.Path.{_≡_};
 ghost use Rattle.memory_range.specs.List.{rangesOf, taggedOf, startsOf, endsOf, tagsOf};
 ghost use Rattle.boot_ram.specs.Verdict.{written, freeCounted};
 ghost use Rattle.boot_ram.specs.Import.{importWalk, importsClear, isTdx, isExcused, isSkipped};
-use crate::count::Counted;
 use crate::file::MAX_FREE_PIECES;
-use crate::put::put_piece;
 use host_params::IsolationType;
 use memory_range::MemoryRange;
-use memory_range::RangeWalkResult;
-use memory_range::WalkCursor;
-use memory_range::WalkStep;
+use memory_range::put_range;
 use memory_range::tagged_count;
-use memory_range::walk_ranges;
+use range_lists::RangeWalkResult;
+use range_lists::WalkCursor;
+use range_lists::WalkStep;
+use range_lists::walk_ranges;
+use refusal::Counted;
 use refusal::IMPORT_NOT_IN_MAP;
 use refusal::TOO_MANY_PIECES;
 
@@ -146,7 +146,7 @@ pub fn walk_imports<'a>(
                             return Counted::Refused(TOO_MANY_PIECES);
                         }
                         let node = found_nodes[item];
-                        put_piece(free_starts, free_ends, free_nodes, free, range, node);
+                        put_range(free_starts, free_ends, free_nodes, free, range, node);
                         free += 1;
                     }
                     RangeWalkResult::Both(_, _) => {}

@@ -85,7 +85,7 @@ pub(crate) fn low_8_bits(value: u64) -> u8 {
 }
 
 // The part from a to b, or nothing where there is no such part.
-fn part<'a>(values: &'a [u64], a: usize, b: usize) -> &'a [u64] {
+pub(crate) fn part<'a>(values: &'a [u64], a: usize, b: usize) -> &'a [u64] {
     if a <= b {
         if b <= values.len() {
             return &values[a..b];
@@ -94,8 +94,17 @@ fn part<'a>(values: &'a [u64], a: usize, b: usize) -> &'a [u64] {
     &values[..0]
 }
 
+pub(crate) fn tag_part<'a>(tags: &'a [u32], a: usize, b: usize) -> &'a [u32] {
+    if a <= b {
+        if b <= tags.len() {
+            return &tags[a..b];
+        }
+    }
+    &tags[..0]
+}
+
 // Number i, or 0.
-fn at(values: &[u64], i: usize) -> u64 {
+pub(crate) fn at(values: &[u64], i: usize) -> u64 {
     if i < values.len() {
         return values[i];
     }
@@ -127,14 +136,7 @@ impl Case {
     }
 
     pub(crate) fn tag_list<'a>(self, tags: &'a [u32], k: usize) -> &'a [u32] {
-        let start = self.list_start(k);
-        let end = self.list_end(k);
-        if start <= end {
-            if end <= tags.len() {
-                return &tags[start..end];
-            }
-        }
-        &tags[..0]
+        tag_part(tags, self.list_start(k), self.list_end(k))
     }
 
     pub(crate) fn list_mut<'a>(self, values: &'a mut [u64], k: usize) -> &'a mut [u64] {
@@ -166,7 +168,21 @@ impl Case {
     }
 }
 
-fn same_numbers<'a>(a: &'a [u64], b: &'a [u64]) -> bool {
+pub(crate) fn same_numbers<'a>(a: &'a [u64], b: &'a [u64]) -> bool {
+    if a.len() != b.len() {
+        return false;
+    }
+    let mut i = 0;
+    while i < a.len() {
+        if a[i] != b[i] {
+            return false;
+        }
+        i += 1;
+    }
+    true
+}
+
+pub(crate) fn same_nodes<'a>(a: &'a [u32], b: &'a [u32]) -> bool {
     if a.len() != b.len() {
         return false;
     }

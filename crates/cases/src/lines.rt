@@ -47,46 +47,80 @@ fn place_behind(put: Put) -> u64 {
     }
 }
 
+fn put(is_number: bool, buffer: &mut [u8], at: usize, value: u64) -> Put {
+    if is_number {
+        return plan_output::put_number(buffer, at, value);
+    }
+    plan_output::put_word(buffer, at, b"word")
+}
+
 // A word, or the number of the second list, put at a place of a buffer of eight bytes.
-fn on_put(op: &[u8], case: Case) -> Numbers {
+fn on_put(is_number: bool, case: Case) -> Numbers {
     let mut buffer = [b'.'; 8];
     let at = case.number(0, 0) as usize;
-    if check::same(op, b"put_number") {
-        let put = plan_output::put_number(&mut buffer, at, case.number(1, 0));
-        return with_bytes(Numbers::none().with(place_behind(put)), &buffer);
+    let put = put(is_number, &mut buffer, at, case.number(1, 0));
+    with_bytes(Numbers::none().with(place_behind(put)), &buffer)
+}
+
+// A line by what it says.
+enum Line {
+    Ram,
+    Pool,
+    Got,
+    Map,
+    No,
+}
+
+fn write(line: Line, buffer: &mut [u8; LINE_SIZE], range: MemoryRange, last: u64) -> usize {
+    match line {
+        Line::Ram => plan_output::write_ram(buffer, range, low_32_bits(last)),
+        Line::Pool => plan_output::write_pool(buffer, range, low_32_bits(last)),
+        Line::Got => plan_output::write_got(buffer, range, low_32_bits(last)),
+        Line::Map => plan_output::write_map(buffer, range, type_at(last)),
+        Line::No => plan_output::write_no(buffer, low_8_bits(last)),
     }
-    if check::same(op, b"put_word") {
-        let put = plan_output::put_word(&mut buffer, at, b"word");
-        return with_bytes(Numbers::none().with(place_behind(put)), &buffer);
-    }
-    Numbers::unknown()
 }
 
 fn with_line(len: usize, buffer: &[u8; LINE_SIZE]) -> Numbers {
     with_bytes(Numbers::none().with(len as u64), buffer)
 }
 
-// What the operation of that name answers.
-pub(crate) fn answer(op: &[u8], case: Case) -> Numbers {
+fn on_line(line: Line, case: Case) -> Numbers {
     let mut buffer = [b'.'; LINE_SIZE];
     let range = MemoryRange {
         start: case.number(0, 0),
         end: case.number(0, 1),
     };
-    let last = case.number(1, 0);
-    let mut len = 0;
-    if check::same(op, b"write_ram") {
-        len = plan_output::write_ram(&mut buffer, range, low_32_bits(last));
-    } else if check::same(op, b"write_pool") {
-        len = plan_output::write_pool(&mut buffer, range, low_32_bits(last));
-    } else if check::same(op, b"write_got") {
-        len = plan_output::write_got(&mut buffer, range, low_32_bits(last));
-    } else if check::same(op, b"write_map") {
-        len = plan_output::write_map(&mut buffer, range, type_at(last));
-    } else if check::same(op, b"write_no") {
-        len = plan_output::write_no(&mut buffer, low_8_bits(last));
-    } else {
-        return on_put(op, case);
-    }
+    let len = write(line, &mut buffer, range, case.number(1, 0));
     with_line(len, &buffer)
+}
+
+fn on_other(op: &[u8], case: Case) -> Numbers {
+    if check::same(op, b"write_no") {
+        return on_line(Line::No, case);
+    }
+    if check::same(op, b"put_number") {
+        return on_put(true, case);
+    }
+    if check::same(op, b"put_word") {
+        return on_put(false, case);
+    }
+    Numbers::unknown()
+}
+
+// What the operation of that name answers.
+pub(crate) fn answer(op: &[u8], case: Case) -> Numbers {
+    if check::same(op, b"write_ram") {
+        return on_line(Line::Ram, case);
+    }
+    if check::same(op, b"write_pool") {
+        return on_line(Line::Pool, case);
+    }
+    if check::same(op, b"write_got") {
+        return on_line(Line::Got, case);
+    }
+    if check::same(op, b"write_map") {
+        return on_line(Line::Map, case);
+    }
+    on_other(op, case)
 }

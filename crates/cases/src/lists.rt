@@ -1,18 +1,18 @@
-// The operations of `memory_range` on whole lists.
+// The operations of `memory_range` and `range_lists` on whole lists.
 use super::case::Case;
 use super::case::Numbers;
 use super::case::low_32_bits;
 use super::ranges::number;
 use super::ranges::place;
 use super::steps;
-use memory_range::NodeCount;
+use range_lists::NodeCount;
 
 // Starts, ends and tags afterwards.
 fn sorted(case: Case) -> Numbers {
     let mut starts = case.values;
     let mut ends = case.values;
     let mut tags = case.tags;
-    memory_range::sort_by_start(
+    range_lists::sort_by_start(
         case.list_mut(&mut starts, 0),
         case.list_mut(&mut ends, 1),
         case.tag_list_mut(&mut tags, 2),
@@ -28,7 +28,7 @@ fn sorted(case: Case) -> Numbers {
 fn inserted(case: Case) -> Numbers {
     let values = case.values;
     let mut nodes = case.tags;
-    let added = memory_range::insert_node(
+    let added = range_lists::insert_node(
         case.tag_list_mut(&mut nodes, 0),
         case.number(1, 0) as usize,
         low_32_bits(case.number(2, 0)),
@@ -64,5 +64,5 @@ pub(crate) fn answer(op: &[u8], case: Case) -> Numbers {
     if check::same(op, b"insert_node") {
         return inserted(case);
     }
-    steps::answer(op, case)
+    steps::answer(op, case, &values)
 }

@@ -2,15 +2,20 @@
 // lists parted by `/`, the last one by `=`: that one is what the operation answers to the others. In the
 // file of texts the name is followed by a text. A line with an answer that differs is printed; the last
 // line of each file counts.
+mod builds;
 mod case;
 mod decode;
+mod entries;
 mod lines;
+mod listings;
 mod lists;
 mod ranges;
 mod records;
+mod requests;
 mod selections;
 mod sizes;
 mod steps;
+mod tables;
 mod text;
 mod texts;
 
@@ -30,6 +35,7 @@ enum Layer {
     PlanOutput,
     DmaHint,
     Vtl2Ram,
+    Memory,
 }
 
 // Whether the line's answer is the one that it stores.
@@ -58,6 +64,10 @@ fn is_same(line: &[u8], layer: Layer) -> bool {
         Layer::Vtl2Ram => {
             let c = text::read_case(line);
             case::is_answer(c, selections::answer(op, c))
+        }
+        Layer::Memory => {
+            let c = text::read_case(line);
+            case::is_answer(c, tables::answer(op, c))
         }
     }
 }
@@ -147,4 +157,7 @@ fn main() {
     replay_file(b"plan_output.txt", Layer::PlanOutput);
     replay_file(b"dma_hint.txt", Layer::DmaHint);
     replay_file(b"vtl2_ram.txt", Layer::Vtl2Ram);
+    replay_file(b"memory_build.txt", Layer::Memory);
+    replay_file(b"memory_request.txt", Layer::Memory);
+    replay_file(b"memory_lists.txt", Layer::Memory);
 }

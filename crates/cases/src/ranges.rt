@@ -50,32 +50,43 @@ fn on_numbers(op: &[u8], case: Case) -> Numbers {
     lists::answer(op, case)
 }
 
-// What the operation of that name answers.
-pub(crate) fn answer(op: &[u8], case: Case) -> Numbers {
+fn on_range(op: &[u8], case: Case) -> Numbers {
+    let none = Numbers::none();
+    let a = range_of(case, 0);
+    if check::same(op, b"aligned_subrange") {
+        return with_range(none, a.aligned_subrange(case.number(1, 0)));
+    }
+    if check::same(op, b"split_at_offset") {
+        let split = a.split_at_offset(case.number(1, 0));
+        let left = split.left;
+        let right = split.right;
+        return with_range(with_range(none, left), right);
+    }
+    on_numbers(op, case)
+}
+
+fn on_ranges(op: &[u8], case: Case) -> Numbers {
     let none = Numbers::none();
     let a = range_of(case, 0);
     let b = range_of(case, 1);
-    let n = case.number(1, 0);
-    if check::same(op, b"len") {
-        return none.with(a.len());
-    }
-    if check::same(op, b"is_valid") {
-        return none.with(number(a.is_valid()));
-    }
     if check::same(op, b"contains") {
         return none.with(number(a.contains(b)));
     }
     if check::same(op, b"overlaps") {
         return none.with(number(a.overlaps(b)));
     }
-    if check::same(op, b"aligned_subrange") {
-        return with_range(none, a.aligned_subrange(n));
+    on_range(op, case)
+}
+
+// What the operation of that name answers.
+pub(crate) fn answer(op: &[u8], case: Case) -> Numbers {
+    let none = Numbers::none();
+    let a = range_of(case, 0);
+    if check::same(op, b"len") {
+        return none.with(a.len());
     }
-    if check::same(op, b"split_at_offset") {
-        let split = a.split_at_offset(n);
-        let left = split.left;
-        let right = split.right;
-        return with_range(with_range(none, left), right);
+    if check::same(op, b"is_valid") {
+        return none.with(number(a.is_valid()));
     }
-    on_numbers(op, case)
+    on_ranges(op, case)
 }

@@ -12,6 +12,7 @@ use host_params::OptionU32;
 use host_params::OptionU64;
 use host_params::Vtl2GpaPoolConfig;
 use host_params::Vtl2GpaPoolLookupTable;
+use memory_range::MemoryRange;
 use plan_record::Get;
 use plan_record::Pool;
 use plan_record::Record;
@@ -94,6 +95,7 @@ fn with_shape(numbers: Numbers, shape: Shape) -> Numbers {
     let size = shape.memory_size;
     with_optional(
         numbers
+            .with(0)
             .with(mode_place(mode))
             .with(isolation_place(isolation)),
         size,
@@ -103,7 +105,7 @@ fn with_shape(numbers: Numbers, shape: Shape) -> Numbers {
 fn with_entry(numbers: Numbers, entry: MemoryEntry) -> Numbers {
     let range = entry.range;
     let entry_type = entry.mem_type;
-    with_range(numbers, range)
+    with_numbered(numbers, 2, range)
         .with(entry.vnode as u64)
         .with(entry_type_place(entry_type))
 }
@@ -111,7 +113,7 @@ fn with_entry(numbers: Numbers, entry: MemoryEntry) -> Numbers {
 fn with_pool(numbers: Numbers, pool: Pool) -> Numbers {
     let config = pool.config;
     let host_pages = pool.host_pages;
-    with_optional(with_config(numbers, config), host_pages)
+    with_optional(with_config(numbers.with(12), config), host_pages)
         .with(pool.processors)
         .with(number(pool.split))
 }
@@ -122,7 +124,7 @@ fn with_get(numbers: Numbers, get: Get) -> Numbers {
     let kind = get.allocation_type;
     let alignment = get.alignment;
     with_optional(
-        with_optional_node(numbers, node)
+        with_optional_node(numbers.with(13), node)
             .with(get.len)
             .with(policy_place(policy))
             .with(kind_place(kind)),
@@ -130,21 +132,26 @@ fn with_get(numbers: Numbers, get: Get) -> Numbers {
     )
 }
 
+// A record that is a range: its number and the range.
+fn with_numbered(numbers: Numbers, record: u64, range: MemoryRange) -> Numbers {
+    with_range(numbers.with(record), range)
+}
+
 pub(crate) fn with_record(numbers: Numbers, found: Record) -> Numbers {
     match found {
-        Record::Shape(shape) => with_shape(numbers.with(0), shape),
-        Record::File(range) => with_range(numbers.with(1), range),
-        Record::Mem(entry) => with_entry(numbers.with(2), entry),
-        Record::Import(range) => with_range(numbers.with(3), range),
-        Record::Used(range) => with_range(numbers.with(4), range),
-        Record::State(range) => with_range(numbers.with(5), range),
-        Record::Config(range) => with_range(numbers.with(6), range),
-        Record::Keep(range) => with_range(numbers.with(7), range),
-        Record::Side(range) => with_range(numbers.with(8), range),
-        Record::Tables(range) => with_range(numbers.with(9), range),
-        Record::Log(range) => with_range(numbers.with(10), range),
-        Record::Gpool(range) => with_range(numbers.with(11), range),
-        Record::Pool(pool) => with_pool(numbers.with(12), pool),
-        Record::Get(get) => with_get(numbers.with(13), get),
+        Record::Shape(shape) => with_shape(numbers, shape),
+        Record::File(range) => with_numbered(numbers, 1, range),
+        Record::Mem(entry) => with_entry(numbers, entry),
+        Record::Import(range) => with_numbered(numbers, 3, range),
+        Record::Used(range) => with_numbered(numbers, 4, range),
+        Record::State(range) => with_numbered(numbers, 5, range),
+        Record::Config(range) => with_numbered(numbers, 6, range),
+        Record::Keep(range) => with_numbered(numbers, 7, range),
+        Record::Side(range) => with_numbered(numbers, 8, range),
+        Record::Tables(range) => with_numbered(numbers, 9, range),
+        Record::Log(range) => with_numbered(numbers, 10, range),
+        Record::Gpool(range) => with_numbered(numbers, 11, range),
+        Record::Pool(pool) => with_pool(numbers, pool),
+        Record::Get(get) => with_get(numbers, get),
     }
 }

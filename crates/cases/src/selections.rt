@@ -3,93 +3,64 @@
 // behind the first one.
 use super::case::Case;
 use super::case::Numbers;
+use super::case::at;
 use super::case::low_32_bits;
+use super::case::part;
+use super::case::same_nodes;
+use super::case::same_numbers;
+use super::case::tag_part;
+use super::entries::ENTRIES;
+use super::entries::Lists;
+use super::ranges::number;
 use host_params::IsolationType;
 use host_params::MemoryAllocationMode;
 use host_params::OptionU64;
 use memory_range::MemoryRange;
 use vtl2_ram::Selection;
 use vtl2_ram::Vtl2Ram;
-ghost use Prim.Native.Nat.{_≤_};
-
-// The most entries that a line can stand for.
-const ENTRIES: usize = 1100;
 
 // Number k of a run.
-fn run_number(case: Case, list: usize, run: usize, k: usize) -> u64 {
-    case.number(list, std::num::wrapping_add_usize(run, k))
+fn run_number(list: &[u64], run: usize, k: usize) -> u64 {
+    at(list, std::num::wrapping_add_usize(run, k))
 }
 
-// Each of these three writes a value at a place, if the list has that place.
-fn put_number(list: &mut [u64], place: usize, value: u64) {
-    if place < list.len() {
-        list[place] = value;
-    }
-}
-
-fn put_node(list: &mut [u32], place: usize, value: u32) {
-    if place < list.len() {
-        list[place] = value;
-    }
-}
-
-fn put_flag(list: &mut [bool], place: usize, value: bool) {
-    if place < list.len() {
-        list[place] = value;
-    }
-}
-
-// Writes the entries of the run that begins at number `run` of a list, from place `at` on.
-fn write_run(
-    case: Case,
-    list: usize,
-    run: usize,
-    at: usize,
-    starts: &mut [u64],
-    ends: &mut [u64],
-    nodes: &mut [u32],
-    protectable: &mut [bool],
-) -> usize {
-    let mut start = run_number(case, list, run, 0);
-    let length = run_number(case, list, run, 1);
-    let step = run_number(case, list, run, 2);
-    let mut node = run_number(case, list, run, 4);
-    let node_step = run_number(case, list, run, 5);
-    let is_protectable = run_number(case, list, run, 6) == 1;
-    let mut place = at;
-    for _ in 0..run_number(case, list, run, 3) {
-        put_number(starts, place, start);
-        put_number(ends, place, std::num::wrapping_add_u64(start, length));
-        put_node(nodes, place, low_32_bits(node));
-        put_flag(protectable, place, is_protectable);
-        place = std::num::wrapping_add_usize(place, 1);
+// With the entries of the run that begins at number `run` of a list.
+fn with_run(lists: Lists, list: &[u64], run: usize) -> Lists {
+    let mut more = lists;
+    let mut start = run_number(list, run, 0);
+    let length = run_number(list, run, 1);
+    let step = run_number(list, run, 2);
+    let mut node = run_number(list, run, 4);
+    let node_step = run_number(list, run, 5);
+    let is_protectable = run_number(list, run, 6) == 1;
+    let mut at = lists.count;
+    for _ in 0..run_number(list, run, 3) {
+        if at < ENTRIES {
+            more.starts[at] = start;
+            more.ends[at] = std::num::wrapping_add_u64(start, length);
+            more.nodes[at] = low_32_bits(node);
+            more.protectable[at] = is_protectable;
+        }
+        at = std::num::wrapping_add_usize(at, 1);
         start = std::num::wrapping_add_u64(start, step);
         node = std::num::wrapping_add_u64(node, node_step);
     }
-    place
+    more.count = at;
+    more
 }
 
-// Writes all entries of a list; answers how many there are, at most ENTRIES.
-fn write_entries(
-    case: Case,
-    list: usize,
-    starts: &mut [u64],
-    ends: &mut [u64],
-    nodes: &mut [u32],
-    protectable: &mut [bool],
-) -> usize
-    ensures { λ r. ⌜ r ≤ 1100 ⌝ }
-{
-    let mut at = 0;
+// With all entries of a list.
+fn with_runs(lists: Lists, list: &[u64]) -> Lists {
+    let mut more = lists;
     let mut run = 0;
     for _ in 0..super::case::MOST / 7 {
-        at = write_run(case, list, run, at, starts, ends, nodes, protectable);
+        if list.len() <= run {
+            return more;
+        }
+        more = with_run(more, list, run);
         run = std::num::wrapping_add_usize(run, 7);
     }
-    if ENTRIES < at {
-        return ENTRIES;
-    }
-    at
+    more
 }
 
 fn mode(number: u64) -> MemoryAllocationMode {
@@ -116,102 +87,95 @@ fn ram_size(is_given: bool, size: u64) -> OptionU64 {
     OptionU64::None
 }
 
-// What the line's lists of entries select.
-fn select(case: Case) -> Vtl2Ram {
-    let mut starts = [0u64; ENTRIES];
-    let mut ends = [0u64; ENTRIES];
-    let mut nodes = [0u32; ENTRIES];
-    let mut protectable = [false; ENTRIES];
-    let count = write_entries(
-        case,
-        1,
-        &mut starts,
-        &mut ends,
-        &mut nodes,
-        &mut protectable,
-    );
-    let mut import_starts = [0u64; ENTRIES];
-    let mut import_ends = [0u64; ENTRIES];
-    let mut no_nodes = [0u32; ENTRIES];
-    let mut none_protectable = [false; ENTRIES];
-    let imports = write_entries(
-        case,
-        2,
-        &mut import_starts,
-        &mut import_ends,
-        &mut no_nodes,
-        &mut none_protectable,
-    );
+fn flag_part<'a>(flags: &'a [bool], a: usize, b: usize) -> &'a [bool] {
+    if a <= b {
+        if b <= flags.len() {
+            return &flags[a..b];
+        }
+    }
+    &flags[..0]
+}
+
+// What the map selects, its entries below place `map`, with the imports from there to place `imports`.
+fn select_from<'a>(
+    list: &'a [u64],
+    map: usize,
+    imports: usize,
+    starts: &'a [u64],
+    ends: &'a [u64],
+    nodes: &'a [u32],
+    protectable: &'a [bool],
+) -> Vtl2Ram {
     vtl2_ram::select_vtl2_ram(
-        mode(case.number(0, 0)),
-        isolation(case.number(0, 1)),
-        ram_size(case.number(0, 2) == 1, case.number(0, 3)),
+        mode(at(list, 0)),
+        isolation(at(list, 1)),
+        ram_size(at(list, 2) == 1, at(list, 3)),
         MemoryRange {
-            start: case.number(0, 4),
-            end: case.number(0, 5),
+            start: at(list, 4),
+            end: at(list, 5),
         },
-        &starts[..count],
-        &ends[..count],
-        &nodes[..count],
-        &protectable[..count],
-        &import_starts[..imports],
-        &import_ends[..imports],
+        part(starts, 0, map),
+        part(ends, 0, map),
+        tag_part(nodes, 0, map),
+        flag_part(protectable, 0, map),
+        part(starts, map, imports),
+        part(ends, map, imports),
     )
 }
 
-// Whether the RAM's entries are those that the line's fourth list has, and behind them all is 0.
-fn is_stored(case: Case, ram: Vtl2Ram) -> bool {
-    let mut starts = [0u64; ENTRIES];
-    let mut ends = [0u64; ENTRIES];
-    let mut nodes = [0u32; ENTRIES];
-    let mut protectable = [false; ENTRIES];
-    write_entries(
-        case,
-        3,
-        &mut starts,
-        &mut ends,
-        &mut nodes,
-        &mut protectable,
-    );
-    let mut i = 0;
-    while i < boot_ram::MAX_VTL2_RAM_RANGES {
-        if ram.starts[i] != starts[i] {
-            return false;
-        }
-        if ram.ends[i] != ends[i] {
-            return false;
-        }
-        if ram.nodes[i] != nodes[i] {
-            return false;
-        }
-        i += 1;
-    }
-    true
+// What the line's lists of entries select.
+fn select<'a>(list: &'a [u64], map: &'a [u64], imports: &'a [u64]) -> Vtl2Ram {
+    let lists = with_runs(Lists::none(), map);
+    let map = lists.count;
+    let lists = with_runs(lists, imports);
+    select_from(
+        list,
+        map,
+        lists.count,
+        &lists.starts,
+        &lists.ends,
+        &lists.nodes,
+        &lists.protectable,
+    )
 }
 
-fn flag(holds: bool) -> u64 {
-    if holds {
-        return 1;
+// Whether the RAM's entries are those of the list, and behind them all is 0.
+fn is_stored(list: &[u64], ram: Vtl2Ram) -> bool {
+    let stored = with_runs(Lists::none(), list);
+    let most = host_params::MAX_VTL2_RAM_RANGES;
+    if !same_numbers(&ram.starts, part(&stored.starts, 0, most)) {
+        return false;
     }
-    0
+    if !same_numbers(&ram.ends, part(&stored.ends, 0, most)) {
+        return false;
+    }
+    same_nodes(&ram.nodes, tag_part(&stored.nodes, 0, most))
 }
 
 // The refusal's number; or 0, the count, the bytes, and whether the entries are the stored ones. A
 // refusal's arrays are 0, as the stored ones of such a line are.
-pub(crate) fn answer(op: &[u8], case: Case) -> Numbers {
-    if !check::same(op, b"select") {
-        return Numbers::unknown();
-    }
-    let ram = select(case);
+fn on_select(case: Case, values: &[u64]) -> Numbers {
+    let ram = select(
+        case.list(values, 0),
+        case.list(values, 1),
+        case.list(values, 2),
+    );
     let selection = ram.selection;
+    let is_stored = number(is_stored(case.list(values, 3), ram));
     match selection {
-        Selection::Refused(number) => Numbers::none()
-            .with(number as u64)
-            .with(flag(is_stored(case, ram))),
+        Selection::Refused(refusal) => Numbers::none().with(refusal as u64).with(is_stored),
         Selection::Chosen(count, bytes) => Numbers::none()
             .with(0)
             .with(count as u64)
             .with(bytes)
-            .with(flag(is_stored(case, ram))),
+            .with(is_stored),
     }
+}
+
+pub(crate) fn answer(op: &[u8], case: Case) -> Numbers {
+    let values = case.values;
+    if check::same(op, b"select") {
+        return on_select(case, &values);
+    }
+    Numbers::unknown()
 }

@@ -1,14 +1,14 @@
-// The operations of `memory_range` on lists that answer in steps.
+// The operations of `range_lists` on lists that answer in steps.
 use super::case::Case;
 use super::case::MOST;
 use super::case::Numbers;
 use super::ranges::place;
 use super::ranges::with_range;
-use memory_range::MergeStep;
-use memory_range::RangeWalkResult;
-use memory_range::SubtractStep;
-use memory_range::WalkCursor;
-use memory_range::WalkStep;
+use range_lists::MergeStep;
+use range_lists::RangeWalkResult;
+use range_lists::SubtractStep;
+use range_lists::WalkCursor;
+use range_lists::WalkStep;
 
 // The answer so far, where the operation goes on, and whether it has ended.
 struct Progress {
@@ -36,7 +36,7 @@ fn walk_step<'a>(
 ) -> Progress {
     let numbers = so_far.numbers;
     let mut more = so_far;
-    match memory_range::walk_ranges(ls, le, rs, re, so_far.cursor) {
+    match range_lists::walk_ranges(ls, le, rs, re, so_far.cursor) {
         WalkStep::Piece(piece, next) => {
             let range = piece.range;
             let held = piece.result;
@@ -58,7 +58,7 @@ fn subtract_step<'a>(
 ) -> Progress {
     let numbers = so_far.numbers;
     let mut more = so_far;
-    match memory_range::subtract_ranges(ls, le, rs, re, so_far.cursor) {
+    match range_lists::subtract_ranges(ls, le, rs, re, so_far.cursor) {
         SubtractStep::Range(rest, next) => {
             let range = rest.range;
             more.numbers = with_range(numbers, range).with(place(rest.item));
@@ -78,7 +78,7 @@ fn merge_step<'a>(
 ) -> Progress {
     let numbers = so_far.numbers;
     let mut more = so_far;
-    match memory_range::merge_adjacent_ranges(starts, ends, tags, so_far.index) {
+    match range_lists::merge_adjacent_ranges(starts, ends, tags, so_far.index) {
         MergeStep::Range(joined, next) => {
             let range = joined.range;
             more.numbers = with_range(numbers, range).with(joined.tag as u64);
@@ -90,14 +90,15 @@ fn merge_step<'a>(
 }
 
 // No line has the answer of a name that there is not.
-fn step(op: &[u8], case: Case, so_far: Progress) -> Progress {
-    let values = case.values;
-    let tags = case.tags;
-    let a = case.list(&values, 0);
-    let b = case.list(&values, 1);
-    let c = case.list(&values, 2);
-    let d = case.list(&values, 3);
-    let t = case.tag_list(&tags, 2);
+fn step<'a>(
+    op: &'a [u8],
+    a: &'a [u64],
+    b: &'a [u64],
+    c: &'a [u64],
+    d: &'a [u64],
+    tags: &'a [u32],
+    so_far: Progress,
+) -> Progress {
     if check::same(op, b"walk_ranges") {
         return walk_step(a, b, c, d, so_far);
     }
@@ -105,7 +106,7 @@ fn step(op: &[u8], case: Case, so_far: Progress) -> Progress {
         return subtract_step(a, b, c, d, so_far);
     }
     if check::same(op, b"merge_adjacent_ranges") {
-        return merge_step(a, b, t, so_far);
+        return merge_step(a, b, tags, so_far);
     }
     let mut none = so_far;
     none.numbers = Numbers::unknown();
@@ -113,9 +114,15 @@ fn step(op: &[u8], case: Case, so_far: Progress) -> Progress {
     none
 }
 
-// What the operation of that name answers. After one step more than a line can have numbers, the
-// answer is too long for any line.
-pub(crate) fn answer(op: &[u8], case: Case) -> Numbers {
+// After one step more than a line can have numbers, the answer is too long for any line.
+fn all_steps<'a>(
+    op: &'a [u8],
+    a: &'a [u64],
+    b: &'a [u64],
+    c: &'a [u64],
+    d: &'a [u64],
+    tags: &'a [u32],
+) -> Numbers {
     let mut so_far = Progress {
         numbers: Numbers::none(),
         cursor: WalkCursor::start(),
@@ -126,7 +133,20 @@ pub(crate) fn answer(op: &[u8], case: Case) -> Numbers {
         if so_far.ended {
             return so_far.numbers;
         }
-        so_far = step(op, case, so_far);
+        so_far = step(op, a, b, c, d, tags, so_far);
     }
     so_far.numbers
+}
+
+// What the operation of that name answers.
+pub(crate) fn answer<'a>(op: &'a [u8], case: Case, values: &'a [u64]) -> Numbers {
+    let tags = case.tags;
+    all_steps(
+        op,
+        case.list(values, 0),
+        case.list(values, 1),
+        case.list(values, 2),
+        case.list(values, 3),
+        case.tag_list(&tags, 2),
+    )
 }

@@ -2,6 +2,9 @@
 // the command line say of a guest, what a request for memory asks, and what memory is for.
 use memory_range::MemoryRange;
 
+// The RAM of VTL2 has at most so many entries.
+pub const MAX_VTL2_RAM_RANGES: usize = 64;
+
 // A number, or none: the Rust's `Option<u64>`.
 pub enum OptionU64 {
     Some(u64),

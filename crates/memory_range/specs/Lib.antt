@@ -5,10 +5,4 @@ pub mod Round
 pub mod Align
 pub mod Power
 pub mod Valid
-pub mod Walk
-pub mod WalkStep
-pub mod Subtract
-pub mod Merge
-pub mod Sort
-pub mod Node
 pub mod Laws

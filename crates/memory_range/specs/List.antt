@@ -2,6 +2,7 @@
 -- shortest one tells how many items there are (docs/SPEC.md, section 2).
 use Prim.Native.Nat.{ℕ}
 use mathlib.Core.List.{List, [], _∷_}
+use lib.ListN.{take}
 use Rattle.memory_range.specs.declared.range.MemoryRange.{MemoryRange}
 use Rattle.memory_range.specs.declared.range.TaggedRange.{TaggedRange}
 use Rattle.memory_range.specs.Range.{range}
@@ -22,6 +23,10 @@ taggedOf [] es ts = []
 taggedOf (s ∷ ss) [] ts = []
 taggedOf (s ∷ ss) (e ∷ es) [] = []
 taggedOf (s ∷ ss) (e ∷ es) (t ∷ ts) = tagged s e t ∷ taggedOf ss es ts
+
+-- the first k of them
+abbrev pub firstTagged : ℕ → List ℕ → List ℕ → List ℕ → List TaggedRange
+firstTagged k ss es ts = taggedOf (take k ss) (take k es) (take k ts)
 
 -- each field of tagged ranges as a list
 abbrev pub startsOf : List TaggedRange → List ℕ

@@ -1,1 +1,4 @@
 pub mod Number
+pub mod Rows
+pub mod Answer
+pub mod Laws

@@ -5,6 +5,11 @@
 ghost use mathlib.Core.Path.{_≡_};
 ghost use Rattle.refusal.specs.Number.{all};
 
+mod answer;
+
+pub use answer::Counted;
+pub use answer::Rows;
+
 // The text.
 
 // A line of the text breaks its form.

@@ -10,21 +10,22 @@ use Rattle.memory_range.specs.declared.range.MemoryRange.{MemoryRange}
 use Rattle.memory_range.specs.declared.range.TaggedRange.{TaggedRange}
 use Rattle.memory_range.specs.List.{rangesIn, tagsOf}
 use Rattle.memory_range.specs.Range.{lengthOf}
-use Rattle.memory_range.specs.Sort.{sortByStart}
+use Rattle.range_lists.specs.Sort.{sortByStart}
 use Rattle.memory_range.specs.Valid.{pageSize, validRange, allValid, ascend}
 use Rattle.host_params.specs.declared.IsolationType.{IsolationType}
 use Rattle.host_params.specs.declared.OptionU64.{OptionU64}
 use Rattle.host_params.specs.declared.OptionU64.the-variants.{Some, None}
 use Rattle.boot_ram.specs.File.{fileWalk}
 use Rattle.boot_ram.specs.Import.{importsClear, importWalk}
-use Rattle.boot_ram.specs.Node.{distinct, nodesBad}
-use Rattle.boot_ram.specs.Share.{shareOf}
-use Rattle.boot_ram.specs.Take.{taking}
-use Rattle.boot_ram.specs.Verdict.{Judged, ends, refusedIf}
+use Rattle.boot_nodes.specs.Node.{distinct, nodesBad}
+use Rattle.boot_nodes.specs.Share.{shareOf}
+use Rattle.boot_take.specs.Take.{taking}
+use Rattle.boot_ram.specs.Verdict.{Judged, ends}
 use Rattle.refusal.specs.Number.{nodeNumbers, ramSizeBelowFile, shareTooLarge, importCrossesFile}
+use Rattle.refusal.specs.Rows.{refusedIf, downward}
 use Rattle.vtl2_ram.specs.declared.boot.NodeShare.{NodeShare}
 use Rattle.vtl2_ram.specs.declared.boot.NodeShare.the-variants.{Bytes, Refused}
-use Rattle.vtl2_ram.specs.Choice.{Choice, chosen, unless, downward}
+use Rattle.vtl2_ram.specs.Choice.{Choice, chosen, unless}
 
 -- the RAM size: the one given, or the file's
 abbrev pub sizeWanted : OptionU64 → MemoryRange → ℕ

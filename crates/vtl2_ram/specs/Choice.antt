@@ -1,6 +1,6 @@
 -- What a selection comes to (docs/SPEC.md, section 19).
 use Prim.Native.Nat.{ℕ}
-use mathlib.Core.List.{List, [], _∷_}
+use mathlib.Core.List.{List, []}
 use mathlib.Core.Option.{Option, none, some}
 use Rattle.memory_range.specs.declared.range.TaggedRange.{TaggedRange}
 
@@ -18,9 +18,3 @@ entriesOf (chosen xs) = xs
 abbrev pub unless : Option ℕ → Choice → Choice
 unless (some n) c = refused n
 unless none c = c
-
--- rows are looked at downward: the first one that refuses
-abbrev pub downward : List (Option ℕ) → Option ℕ
-downward [] = none
-downward (some n ∷ rows) = some n
-downward (none ∷ rows) = downward rows

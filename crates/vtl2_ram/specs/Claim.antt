@@ -12,13 +12,12 @@ use Rattle.memory_range.specs.Bytes.{holders}
 use Rattle.memory_range.specs.List.{rangesIn, tagsOf}
 use Rattle.memory_range.specs.Range.{range, lengthOf, holds}
 use Rattle.memory_range.specs.Valid.{allValid, ascend}
-use Rattle.memory_range.specs.Laws.Node.{has}
+use Rattle.range_lists.specs.Laws.Node.{has}
 use Rattle.host_params.specs.declared.MemoryEntry.{MemoryEntry}
 use Rattle.host_params.specs.declared.OptionU64.{OptionU64}
-use Rattle.boot_ram.specs.Held.{holdersOn}
-use Rattle.boot_ram.specs.Node.{distinct}
-use Rattle.boot_ram.specs.Share.{shareStep, shareOf}
-use Rattle.boot_ram.specs.Take.{onNode, bytesOf}
+use Rattle.boot_ram.specs.Held.{holdersOn, onNode, bytesOf}
+use Rattle.boot_nodes.specs.Node.{distinct}
+use Rattle.boot_nodes.specs.Share.{shareStep, shareOf}
 use Rattle.boot_ram.specs.Verdict.{maxChosen}
 use Rattle.vtl2_ram.specs.Boot.{sizeWanted}
 use Rattle.vtl2_ram.specs.Map.{entriesIn}

@@ -12,10 +12,12 @@ use Rattle.memory_range.specs.Valid.{pageSize}
 use Rattle.host_params.specs.declared.IsolationType.{IsolationType}
 use Rattle.host_params.specs.declared.IsolationType.the-variants.{None, Vbs, Snp, Tdx, Cca}
 use Rattle.host_params.specs.declared.MemoryEntry.{MemoryEntry}
-use Rattle.boot_ram.specs.declared.count.Counted.{Counted}
-use Rattle.boot_ram.specs.Take.{bytesOf}
-use Rattle.boot_ram.specs.Verdict.{maxChosen, countedAs, refusedIf}
+use Rattle.refusal.specs.declared.answer.Counted.{Counted}
+use Rattle.boot_ram.specs.Held.{bytesOf}
+use Rattle.boot_ram.specs.Verdict.{maxChosen}
+use Rattle.refusal.specs.Answer.{countedAs}
 use Rattle.refusal.specs.Number.{shareTooLarge, tooManyPieces}
+use Rattle.refusal.specs.Rows.{refusedIf}
 use Rattle.vtl2_ram.specs.Choice.{Choice, chosen, unless}
 use Rattle.vtl2_ram.specs.Map.{protectableIn}
 

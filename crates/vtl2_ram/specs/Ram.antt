@@ -4,7 +4,7 @@ use mathlib.Core.List.{List}
 use lib.ListN.{length, replicate}
 use Rattle.memory_range.specs.declared.range.TaggedRange.{TaggedRange}
 use Rattle.memory_range.specs.List.{startsOf, endsOf, tagsOf}
-use Rattle.boot_ram.specs.Take.{bytesOf}
+use Rattle.boot_ram.specs.Held.{bytesOf}
 use Rattle.boot_ram.specs.Verdict.{maxChosen, written}
 use Rattle.vtl2_ram.specs.declared.ram.Selection.the-variants.{Chosen, Refused}
 use Rattle.vtl2_ram.specs.declared.ram.Vtl2Ram.{Vtl2Ram}

@@ -2,18 +2,15 @@
 use Prim.Native.Nat.{ℕ}
 use mathlib.Core.Bool.{Bool, true, false, _&&_, not}
 use mathlib.Core.List.{List, [], _∷_}
-use mathlib.Core.Option.{Option, none, some}
+use mathlib.Core.Option.{Option}
 use lib.Dec.{leb, eqb}
 use lib.ListN.{length}
 use Rattle.memory_range.specs.declared.range.MemoryRange.{MemoryRange}
 use Rattle.memory_range.specs.Valid.{validRange, allValid, ascend}
 use Rattle.host_params.specs.declared.MemoryAllocationMode.{MemoryAllocationMode}
 use Rattle.host_params.specs.declared.MemoryAllocationMode.the-variants.{Host, Vtl2}
-use Rattle.boot_ram.specs.Verdict.{refusedIf}
 use Rattle.refusal.specs.Number.{rangeInvalid, rangesNotAscending, mapCount}
-use Rattle.vtl2_ram.specs.declared.rows.Rows.{Rows}
-use Rattle.vtl2_ram.specs.declared.rows.Rows.the-variants.{Passed, Refused}
-use Rattle.vtl2_ram.specs.Choice.{downward}
+use Rattle.refusal.specs.Rows.{refusedIf, downward}
 
 abbrev pub isBoot : MemoryAllocationMode → Bool
 isBoot Host = false
@@ -38,7 +35,3 @@ rowsRefusal mode file map imports =
     ∷ refusedIf (not (ascend map && ascend imports)) rangesNotAscending
     ∷ refusedIf (not (countsGood mode (length map) (length imports))) mapCount
     ∷ [])
-
-abbrev pub rowsAs : Option ℕ → Rows
-rowsAs none = Passed
-rowsAs (some n) = Refused n

@@ -1,33 +1,33 @@
 // Boot mode: the shim chooses from the host's map.
 ghost use mathlib.Core.Path.{_≡_};
 ghost use Rattle.memory_range.specs.Bytes.{Ordered};
-ghost use Rattle.memory_range.specs.List.{rangesIn, rangesOf, taggedOf, startsOf, endsOf, tagsOf};
+ghost use Rattle.memory_range.specs.List.{rangesIn, rangesOf, taggedOf, startsOf, endsOf, tagsOf, firstTagged};
 ghost use lib.ListN.{length};
-ghost use Rattle.boot_ram.specs.Share.{shareOf};
-ghost use Rattle.boot_ram.specs.Take.{firstEntries, countUp};
+ghost use Rattle.boot_nodes.specs.Share.{shareOf};
+ghost use Rattle.boot_nodes.specs.Node.{countUp};
 ghost use Rattle.boot_ram.specs.Verdict.{written, chosenCounted};
-ghost use Rattle.boot_ram.specs.Laws.Stored.{Stored};
+ghost use Rattle.boot_take.specs.Laws.Stored.{Stored};
 ghost use Rattle.vtl2_ram.specs.Ram.{ramAs};
 ghost use Rattle.vtl2_ram.specs.Boot.{sizeWanted, shareAs, shareTooLargeFor, shareRefusal, afterImports, RowsPassed, besideFile, bootParts, bootChoice};
 ghost use Rattle.vtl2_ram.specs.Choice.{entriesOf};
 use crate::ram::Vtl2Ram;
 use crate::ram::chosen_ram;
 use crate::ram::refused_ram;
-use boot_ram::Counted;
+use boot_nodes::numa_node_count;
+use boot_nodes::ram_per_node;
 use boot_ram::FilePieces;
 use boot_ram::MAX_FREE_PIECES;
-use boot_ram::MAX_VTL2_RAM_RANGES;
 use boot_ram::imports_clear;
-use boot_ram::numa_node_count;
-use boot_ram::ram_per_node;
-use boot_ram::take_ram;
 use boot_ram::walk_file;
 use boot_ram::walk_imports;
+use boot_take::take_ram;
 use host_params::IsolationType;
+use host_params::MAX_VTL2_RAM_RANGES;
 use host_params::OptionU64;
 use memory_range::MemoryRange;
 use memory_range::RoundedUp;
-use memory_range::sort_by_start;
+use range_lists::sort_by_start;
+use refusal::Counted;
 use refusal::IMPORT_CROSSES_FILE;
 use refusal::RAM_SIZE_BELOW_FILE;
 use refusal::SHARE_TOO_LARGE;
@@ -81,44 +81,44 @@ fn take_free<'a>(
 ) -> Counted
     ensures { λ r. ⌜
         r ≡ chosenCounted
-        (length (firstEntries «file_pieces» (now («ram_starts» .entry)) (now («ram_ends» .entry)) (now («ram_nodes» .entry))))
+        (length (firstTagged «file_pieces» (now («ram_starts» .entry)) (now («ram_ends» .entry)) (now («ram_nodes» .entry))))
         (afterImports isolation file
         (rangesOf (now («import_starts» .entry)) (now («import_ends» .entry)))
         (taggedOf (now («found_starts» .entry)) (now («found_ends» .entry)) (now («found_nodes» .entry)))
         share
-        (firstEntries «file_pieces» (now («ram_starts» .entry)) (now («ram_ends» .entry)) (now («ram_nodes» .entry)))
+        (firstTagged «file_pieces» (now («ram_starts» .entry)) (now («ram_ends» .entry)) (now («ram_nodes» .entry)))
         (countUp 0 «numa_node_count»))
         ⌝ }
     ensures { λ _. ⌜
         now («ram_starts» .exit) ≡ written
-        (length (firstEntries «file_pieces» (now («ram_starts» .entry)) (now («ram_ends» .entry)) (now («ram_nodes» .entry))))
+        (length (firstTagged «file_pieces» (now («ram_starts» .entry)) (now («ram_ends» .entry)) (now («ram_nodes» .entry))))
         (startsOf (afterImports isolation file
         (rangesOf (now («import_starts» .entry)) (now («import_ends» .entry)))
         (taggedOf (now («found_starts» .entry)) (now («found_ends» .entry)) (now («found_nodes» .entry)))
         share
-        (firstEntries «file_pieces» (now («ram_starts» .entry)) (now («ram_ends» .entry)) (now («ram_nodes» .entry)))
+        (firstTagged «file_pieces» (now («ram_starts» .entry)) (now («ram_ends» .entry)) (now («ram_nodes» .entry)))
         (countUp 0 «numa_node_count») .chosen))
         (now («ram_starts» .entry))
         ⌝ }
     ensures { λ _. ⌜
         now («ram_ends» .exit) ≡ written
-        (length (firstEntries «file_pieces» (now («ram_starts» .entry)) (now («ram_ends» .entry)) (now («ram_nodes» .entry))))
+        (length (firstTagged «file_pieces» (now («ram_starts» .entry)) (now («ram_ends» .entry)) (now («ram_nodes» .entry))))
         (endsOf (afterImports isolation file
         (rangesOf (now («import_starts» .entry)) (now («import_ends» .entry)))
         (taggedOf (now («found_starts» .entry)) (now («found_ends» .entry)) (now («found_nodes» .entry)))
         share
-        (firstEntries «file_pieces» (now («ram_starts» .entry)) (now («ram_ends» .entry)) (now («ram_nodes» .entry)))
+        (firstTagged «file_pieces» (now («ram_starts» .entry)) (now («ram_ends» .entry)) (now («ram_nodes» .entry)))
         (countUp 0 «numa_node_count») .chosen))
         (now («ram_ends» .entry))
         ⌝ }
     ensures { λ _. ⌜
         now («ram_nodes» .exit) ≡ written
-        (length (firstEntries «file_pieces» (now («ram_starts» .entry)) (now («ram_ends» .entry)) (now («ram_nodes» .entry))))
+        (length (firstTagged «file_pieces» (now («ram_starts» .entry)) (now («ram_ends» .entry)) (now («ram_nodes» .entry))))
         (tagsOf (afterImports isolation file
         (rangesOf (now («import_starts» .entry)) (now («import_ends» .entry)))
         (taggedOf (now («found_starts» .entry)) (now («found_ends» .entry)) (now («found_nodes» .entry)))
         share
-        (firstEntries «file_pieces» (now («ram_starts» .entry)) (now («ram_ends» .entry)) (now («ram_nodes» .entry)))
+        (firstTagged «file_pieces» (now («ram_starts» .entry)) (now («ram_ends» .entry)) (now («ram_nodes» .entry)))
         (countUp 0 «numa_node_count») .chosen))
         (now («ram_nodes» .entry))
         ⌝ }
@@ -171,20 +171,20 @@ fn choose_beside_file<'a>(
     mut ram_nodes: [u32; MAX_VTL2_RAM_RANGES],
     file_pieces: usize,
 ) -> Vtl2Ram
-    requires { ⌜ Stored 64 (firstEntries «file_pieces» «ram_starts» «ram_ends» «ram_nodes») «ram_starts» «ram_ends» «ram_nodes» ⌝
+    requires { ⌜ Stored 64 (firstTagged «file_pieces» «ram_starts» «ram_ends» «ram_nodes») «ram_starts» «ram_ends» «ram_nodes» ⌝
         ∗ ⌜ Ordered 0 (rangesIn (entriesOf (besideFile isolation file
         (rangesOf (now «import_starts») (now «import_ends»))
         share
         (countUp 0 «numa_node_count»)
         (taggedOf (now «found_starts») (now «found_ends») (now «found_nodes»))
-        (firstEntries «file_pieces» «ram_starts» «ram_ends» «ram_nodes»)))) ⌝ }
+        (firstTagged «file_pieces» «ram_starts» «ram_ends» «ram_nodes»)))) ⌝ }
     ensures { λ r. ⌜
         r ≡ ramAs (besideFile isolation file
         (rangesOf (now («import_starts» .entry)) (now («import_ends» .entry)))
         share
         (countUp 0 «numa_node_count»)
         (taggedOf (now («found_starts» .entry)) (now («found_ends» .entry)) (now («found_nodes» .entry)))
-        (firstEntries «file_pieces» «ram_starts» «ram_ends» «ram_nodes»))
+        (firstTagged «file_pieces» «ram_starts» «ram_ends» «ram_nodes»))
         ⌝ }
 {
     if !imports_clear(file, import_starts, import_ends) {

@@ -3,10 +3,10 @@ ghost use mathlib.Core.Path.{_≡_};
 ghost use mathlib.Core.List.{[], _∷_};
 ghost use Prim.Native.Nat.{_≤_};
 ghost use Rattle.memory_range.specs.Bytes.{byteCount, Ordered};
-ghost use Rattle.memory_range.specs.List.{rangesIn, rangesOf, tagged};
-ghost use Rattle.boot_ram.specs.Take.{bytesOf, firstEntries};
+ghost use Rattle.memory_range.specs.List.{rangesIn, rangesOf, tagged, firstTagged};
+ghost use Rattle.boot_ram.specs.Held.{bytesOf};
 ghost use Rattle.vtl2_ram.specs.Ram.{ramOf, ramRefused, ramWith};
-use boot_ram::MAX_VTL2_RAM_RANGES;
+use host_params::MAX_VTL2_RAM_RANGES;
 use memory_range::MemoryRange;
 
 pub enum Selection {
@@ -60,8 +60,8 @@ pub(crate) fn chosen_ram(
     nodes: [u32; MAX_VTL2_RAM_RANGES],
     count: usize,
 ) -> Vtl2Ram
-    requires { ⌜ (count ≤ 64) × Ordered 0 (rangesIn (firstEntries count starts ends nodes)) ⌝ }
-    ensures { λ r. ⌜ r ≡ ramWith count (bytesOf (firstEntries count starts ends nodes)) starts ends nodes ⌝ }
+    requires { ⌜ (count ≤ 64) × Ordered 0 (rangesIn (firstTagged count starts ends nodes)) ⌝ }
+    ensures { λ r. ⌜ r ≡ ramWith count (bytesOf (firstTagged count starts ends nodes)) starts ends nodes ⌝ }
 {
     let bytes = total_bytes(&starts[..count], &ends[..count]);
     Vtl2Ram {

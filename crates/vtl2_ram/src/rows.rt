@@ -1,7 +1,8 @@
 // The checks of a selection's lists.
 ghost use mathlib.Core.Path.{_≡_};
 ghost use Rattle.memory_range.specs.List.{rangesOf};
-ghost use Rattle.vtl2_ram.specs.Rows.{isBoot, countsGood, rowsRefusal, rowsAs};
+ghost use Rattle.vtl2_ram.specs.Rows.{isBoot, countsGood, rowsRefusal};
+ghost use Rattle.refusal.specs.Answer.{rowsAs};
 use host_params::MemoryAllocationMode;
 use memory_range::MemoryRange;
 use memory_range::range_count;
@@ -10,12 +11,7 @@ use memory_range::ranges_valid;
 use refusal::MAP_COUNT;
 use refusal::RANGE_INVALID;
 use refusal::RANGES_NOT_ASCENDING;
-
-// The rows are passed, or one refuses.
-pub(crate) enum Rows {
-    Passed,
-    Refused(u8),
-}
+use refusal::Rows;
 
 const MAX_PARTITION_RAM_RANGES: usize = 1024;
 

@@ -9,13 +9,13 @@ use crate::boot::allocate_vtl2_ram;
 use crate::host::parse_host_vtl2_ram;
 use crate::ram::Vtl2Ram;
 use crate::ram::refused_ram;
-use crate::rows::Rows;
 use crate::rows::check_rows;
 use host_params::IsolationType;
 use host_params::MemoryAllocationMode;
 use host_params::OptionU64;
 use memory_range::MemoryRange;
 use memory_range::tagged_count;
+use refusal::Rows;
 
 // How many entries four slices hold: as many as the shortest has elements.
 fn entry_count<'a>(

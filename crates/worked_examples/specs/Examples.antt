@@ -1,4 +1,4 @@
--- The worked examples (docs/SPEC.md, each in the section of its rule), P1 to P9, in one table.
+-- The worked examples (docs/SPEC.md, each in the section of its rule), P1 to P9, P11 and P12, in one table.
 use Prim.Native.Nat.{ℕ, _*_}
 use mathlib.Core.Path.{_≡_}
 use mathlib.Core.List.{List, [], _∷_}
@@ -6,8 +6,15 @@ use Rattle.host_params.specs.declared.Vtl2GpaPoolLookupTable.{Vtl2GpaPoolLookup
 use Rattle.host_params.specs.declared.Vtl2GpaPoolLookupTable.the-variants.{Release, Debug}
 use Rattle.memory_range.specs.Range.{range}
 use Rattle.dma_hint.specs.Hint.{dmaHint}
-use Rattle.boot_ram.specs.Share.{shareOf}
-use Rattle.boot_ram.specs.Take.{takenStart}
+use Rattle.boot_nodes.specs.Share.{shareOf}
+use Rattle.boot_take.specs.Take.{takenStart}
+use Rattle.host_params.specs.declared.AllocationPolicy.{AllocationPolicy}
+use Rattle.host_params.specs.declared.AllocationPolicy.the-variants.{LowMemory, HighMemory}
+use Rattle.host_params.specs.declared.AllocationType.the-variants.{SidecarNode}
+use Rattle.host_params.specs.declared.OptionU32.the-variants as node
+use Rattle.host_params.specs.declared.OptionU64.the-variants as number
+use Rattle.address_space.specs.Request.{Outcome, refused, handed, requested}
+use Rattle.address_space.specs.Split.{freeEntry}
 
 pub data Example : Type 0 where
   -- the hint of a table for so many processors and so many MiB of memory, in pages
@@ -16,12 +23,36 @@ pub data Example : Type 0 where
   share : ℕ → ℕ → ℕ → Example
   -- where the piece starts that is taken for a need from a free entry with this start and end
   taken : ℕ → ℕ → ℕ → ℕ → Example
+  -- where the range starts and ends that a request of one byte, by its policy and alignment, is given from one free entry with
+  -- this start and end
+  given : ℕ → ℕ → AllocationPolicy → ℕ → ℕ → ℕ → Example
+  -- the refusal of such a request
+  turned : ℕ → ℕ → AllocationPolicy → ℕ → ℕ → Example
+
+-- a request of one byte on a table with one free entry
+abbrev pub oneByte : ℕ → ℕ → AllocationPolicy → ℕ → Outcome
+oneByte start end policy alignment = requested node.None 1 SidecarNode policy (number.Some alignment) (freeEntry 0 (range start end) ∷ [])
+
+-- what an outcome tells: the range's start and end, or the refusal; 0 where there is none
+abbrev pub startOf : Outcome → ℕ
+startOf (refused n) = 0
+startOf (handed x es) = x .range .start
+
+abbrev pub endOf : Outcome → ℕ
+endOf (refused n) = 0
+endOf (handed x es) = x .range .end
+
+abbrev pub refusalOf : Outcome → ℕ
+refusalOf (refused n) = n
+refusalOf (handed x es) = 0
 
 -- that the definitions give an example's answer
 abbrev pub Holds : Example → Type 0
 Holds (hint table processors mib pages) = dmaHint table processors (mib * 1048576) ≡ pages
 Holds (share size nodes bytes) = shareOf size nodes ≡ bytes
 Holds (taken need start end at) = takenStart need (range start end) ≡ at
+Holds (given start end policy alignment from to) = (startOf (oneByte start end policy alignment) ≡ from) × (endOf (oneByte start end policy alignment) ≡ to)
+Holds (turned start end policy alignment number) = refusalOf (oneByte start end policy alignment) ≡ number
 
 abbrev pub AllHold : List Example → Type 0
 AllHold [] = Unit
@@ -47,4 +78,11 @@ examples =
     -- 410000 the piece starts at 408000.
     taken 32768 4194304 4255744 4194304 ∷
     taken 32768 4194304 4259840 4227072 ∷
+    -- P11: from 205000 to 20e000, alignment 4000: high is 20b000 to 20c000, whose end is aligned and whose start is not; low is
+    -- 208000 to 209000.
+    given 2117632 2154496 HighMemory 16384 2142208 2146304 ∷
+    given 2117632 2154496 LowMemory 16384 2129920 2134016 ∷
+    -- P12: no multiple of 10000 lies within, so no entry fits.
+    turned 2117632 2154496 HighMemory 65536 25 ∷
+    turned 2117632 2154496 LowMemory 65536 25 ∷
     []

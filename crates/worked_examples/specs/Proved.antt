@@ -7,14 +7,20 @@ use lib.Ieee.Fits.{and-l, and-r}
 use Rattle.dma_hint.specs.Table.{release, debug}
 use Rattle.memory_range.specs.Range.{range}
 use Rattle.dma_hint.specs.Hint.{dmaHint}
-use Rattle.boot_ram.specs.Share.{shareOf}
-use Rattle.boot_ram.specs.Take.{takenStart}
-use Rattle.worked_examples.specs.Examples.{Example, hint, share, taken, Holds, AllHold, examples}
+use Rattle.boot_nodes.specs.Share.{shareOf}
+use Rattle.boot_take.specs.Take.{takenStart}
+use Rattle.memory_range.specs.Align.{alignedPart}
+use Rattle.memory_range.specs.Power.{bitCount}
+use Rattle.address_space.specs.Request.{allocated, requested}
+use Rattle.worked_examples.specs.Examples.{Example, hint, share, taken, given, turned, oneByte, startOf, endOf, refusalOf, Holds, AllHold, examples}
 
 abbrev passes : Example → Bool
 passes (hint table processors mib pages) = eqb (dmaHint table processors (mib * 1048576)) pages
 passes (share size nodes bytes) = eqb (shareOf size nodes) bytes
 passes (taken need start end at) = eqb (takenStart need (range start end)) at
+passes (given start end policy alignment from to) =
+    eqb (startOf (oneByte start end policy alignment)) from && eqb (endOf (oneByte start end policy alignment)) to
+passes (turned start end policy alignment number) = eqb (refusalOf (oneByte start end policy alignment)) number
 
 abbrev allPass : List Example → Bool
 allPass [] = true
@@ -24,11 +30,15 @@ holds : (e : Example) → T (passes e) → Holds e
 holds (hint table processors mib pages) t = eqb→eq (dmaHint table processors (mib * 1048576)) pages t
 holds (share size nodes bytes) t = eqb→eq (shareOf size nodes) bytes t
 holds (taken need start end at) t = eqb→eq (takenStart need (range start end)) at t
+holds (given start end policy alignment from to) t =
+    let o = oneByte start end policy alignment in
+    (eqb→eq (startOf o) from (and-l (eqb (startOf o) from) (eqb (endOf o) to) t), eqb→eq (endOf o) to (and-r (eqb (startOf o) from) (eqb (endOf o) to) t))
+holds (turned start end policy alignment number) t = eqb→eq (refusalOf (oneByte start end policy alignment)) number t
 
 tested : (es : List Example) → T (allPass es) → AllHold es
 tested [] t = tt
 tested (e ∷ es) t = (holds e (and-l (passes e) (allPass es) t), tested es (and-r (passes e) (allPass es) t))
 
 pub all-hold : AllHold examples
-unfolding release debug
+unfolding release debug requested allocated alignedPart bitCount
 all-hold = tested examples tt

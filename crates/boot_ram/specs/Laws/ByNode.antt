@@ -12,11 +12,10 @@ use Rattle.memory_range.specs.declared.range.TaggedRange.{TaggedRange}
 use Rattle.memory_range.specs.Bytes.{holders}
 use Rattle.memory_range.specs.List.{rangesIn}
 use Rattle.memory_range.specs.Range.{lengthOf, holds}
-use Rattle.memory_range.specs.Sort.{sortByStart}
+use Rattle.range_lists.specs.Sort.{sortByStart}
 use Rattle.memory_range.specs.Laws.Count.{tally, tally-add, tally-at-most}
-use Rattle.memory_range.specs.Laws.Sort.{total, sort-tag-total}
-use Rattle.boot_ram.specs.Held.{holdersOn}
-use Rattle.boot_ram.specs.Take.{onNode, bytesOf}
+use Rattle.range_lists.specs.Laws.Sort.{total, sort-tag-total}
+use Rattle.boot_ram.specs.Held.{holdersOn, onNode, bytesOf}
 
 -- a sum over nodes in which one node alone counts
 tally-none : (t h k : ℕ) → k ≤ t → tally (λ n. cond (eqb t n) h 0) k ≡ 0

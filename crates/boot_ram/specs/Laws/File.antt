@@ -10,15 +10,15 @@ use lib.Dec.{eqb}
 use Rattle.memory_range.specs.List.{rangesIn}
 use Rattle.memory_range.specs.declared.range.MemoryRange.{MemoryRange}
 use Rattle.memory_range.specs.declared.range.TaggedRange.{TaggedRange}
-use Rattle.memory_range.specs.declared.walk.RangeWalkResult.{RangeWalkResult}
-use Rattle.memory_range.specs.declared.walk.RangeWalkResult.the-variants.{Left, Right, Both}
-use Rattle.memory_range.specs.declared.walk.WalkPiece.{WalkPiece}
+use Rattle.range_lists.specs.declared.walk.RangeWalkResult.{RangeWalkResult}
+use Rattle.range_lists.specs.declared.walk.RangeWalkResult.the-variants.{Left, Right, Both}
+use Rattle.range_lists.specs.declared.walk.WalkPiece.{WalkPiece}
 use Rattle.memory_range.specs.Bytes.{holders, itemAt, Ordered, All}
 use Rattle.memory_range.specs.Range.{holds}
-use Rattle.memory_range.specs.Walk.{heldBy, walk}
+use Rattle.range_lists.specs.Walk.{heldBy, walk}
 use Rattle.memory_range.specs.Laws.Bytes.{counted, holders-items}
-use Rattle.memory_range.specs.Laws.Pieces.{resultAt}
-use Rattle.memory_range.specs.Laws.Walk.{walk-at}
+use Rattle.range_lists.specs.Laws.Pieces.{resultAt}
+use Rattle.range_lists.specs.Laws.Walk.{walk-at}
 use Rattle.boot_ram.specs.File.{onNodeOf, fileVerdict, fileVerdicts, fileWalk}
 use Rattle.boot_ram.specs.Held.{holdersOn, freeIn, chosenIn, Paged}
 use Rattle.boot_ram.specs.Laws.Judged.{NotRefused, judged-accepted, accepted-none-refused}

@@ -13,18 +13,18 @@ use lib.ListN.{getD}
 use borrow.Author.Tests.{eqb-true}
 use Rattle.memory_range.specs.declared.range.MemoryRange.{MemoryRange}
 use Rattle.memory_range.specs.declared.range.TaggedRange.{TaggedRange}
-use Rattle.memory_range.specs.declared.walk.RangeWalkResult.{RangeWalkResult}
-use Rattle.memory_range.specs.declared.walk.RangeWalkResult.the-variants.{Left, Right, Both}
-use Rattle.memory_range.specs.declared.walk.WalkPiece.{WalkPiece}
+use Rattle.range_lists.specs.declared.walk.RangeWalkResult.{RangeWalkResult}
+use Rattle.range_lists.specs.declared.walk.RangeWalkResult.the-variants.{Left, Right, Both}
+use Rattle.range_lists.specs.declared.walk.WalkPiece.{WalkPiece}
 use Rattle.memory_range.specs.Bytes.{holders, itemAt, Ordered, All}
 use Rattle.memory_range.specs.List.{rangesIn}
 use Rattle.memory_range.specs.Range.{range, holds, containsRange}
 use Rattle.memory_range.specs.Valid.{pageSize}
-use Rattle.memory_range.specs.Walk.{boundaries, heldBy, walk}
+use Rattle.range_lists.specs.Walk.{boundaries, heldBy, walk}
 use Rattle.memory_range.specs.Laws.Bytes.{counted, holders-items, item-holds}
-use Rattle.memory_range.specs.Laws.Pieces.{resultAt}
+use Rattle.range_lists.specs.Laws.Pieces.{resultAt}
 use Rattle.memory_range.specs.Laws.Range.{held, contains-bytes}
-use Rattle.memory_range.specs.Laws.Walk.{walk-at}
+use Rattle.range_lists.specs.Laws.Walk.{walk-at}
 use Rattle.host_params.specs.declared.IsolationType.{IsolationType}
 use Rattle.boot_ram.specs.File.{onNodeOf}
 use Rattle.boot_ram.specs.Held.{AtPage, holdersOn, freeIn, Paged}

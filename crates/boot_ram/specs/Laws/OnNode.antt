@@ -1,4 +1,4 @@
--- The entries of a node, what holds of every entry, and how many hold a byte, in lists that are joined or reversed.
+-- The entries of a node, what holds of each of them, and how many hold a byte, in lists that are joined or reversed.
 use Prim.Native.Nat.{ℕ, _+_}
 use mathlib.Core.Path.{_≡_, refl}
 use mathlib.Core.Bool.{Bool, true, false, cond}
@@ -9,23 +9,9 @@ use lib.Dec.{eqb}
 use Rattle.memory_range.specs.List.{rangesIn}
 use Rattle.memory_range.specs.declared.range.TaggedRange.{TaggedRange}
 use Rattle.memory_range.specs.Bytes.{holders, All}
-use Rattle.boot_ram.specs.Take.{onNode}
-use Rattle.boot_ram.specs.Held.{holdersOn}
+use Rattle.boot_ram.specs.Held.{holdersOn, onNode}
 
--- what holds of every element, in lists that are joined, reversed, or cut down to a node
-module _ {A : Type 0} (P : A → Type 0) where
-  pub all-append : (xs ys : List A) → All P xs → All P ys → All P (xs ++ ys)
-  all-append [] ys h g = g
-  all-append (x ∷ xs) ys h g = (h .0, all-append xs ys (h .1) g)
-
-  pub all-split : (xs ys : List A) → All P (xs ++ ys) → All P xs × All P ys
-  all-split [] ys h = (tt, h)
-  all-split (x ∷ xs) ys h = let i = all-split xs ys (h .1) in ((h .0, i .0), i .1)
-
-  pub all-reverse : (xs : List A) → All P xs → All P (reverse xs)
-  all-reverse [] h = tt
-  all-reverse (x ∷ xs) h = rw (reverse-cons x xs) (all-append (reverse xs) (x ∷ []) (all-reverse xs (h .1)) (h .0, tt))
-
+-- what holds of every entry holds of those of a node
 pub all-on : (P : TaggedRange → Type 0) (n : ℕ) (xs : List TaggedRange) → All P xs → All P (onNode n xs)
 all-on P n [] h = tt
 all-on P n (x ∷ xs) h = go (eqb (x .tag) n) (all-on P n xs (h .1))

@@ -12,21 +12,20 @@ use lib.Dec.{eqb}
 use lib.ListN.{getD}
 use Rattle.memory_range.specs.declared.range.MemoryRange.{MemoryRange}
 use Rattle.memory_range.specs.declared.range.TaggedRange.{TaggedRange}
-use Rattle.memory_range.specs.declared.walk.RangeWalkResult.{RangeWalkResult}
-use Rattle.memory_range.specs.declared.walk.RangeWalkResult.the-variants.{Left, Right, Both}
-use Rattle.memory_range.specs.declared.walk.WalkPiece.{WalkPiece}
+use Rattle.range_lists.specs.declared.walk.RangeWalkResult.{RangeWalkResult}
+use Rattle.range_lists.specs.declared.walk.RangeWalkResult.the-variants.{Left, Right, Both}
+use Rattle.range_lists.specs.declared.walk.WalkPiece.{WalkPiece}
 use Rattle.memory_range.specs.Bytes.{holders, itemFrom, itemAt, Ordered, All}
 use Rattle.memory_range.specs.List.{rangesIn, tagsOf}
 use Rattle.memory_range.specs.Range.{holds}
-use Rattle.memory_range.specs.Walk.{boundaries, heldBy, walk}
+use Rattle.range_lists.specs.Walk.{boundaries, heldBy, walk}
 use Rattle.memory_range.specs.Laws.Bytes.{counted, ordered-before, ordered-below, holders-items}
-use Rattle.memory_range.specs.Laws.Pieces.{pieceRanges}
+use Rattle.range_lists.specs.Laws.Pieces.{pieceRanges}
 use Rattle.memory_range.specs.Laws.Range.{held}
-use Rattle.memory_range.specs.Laws.Picked.{picked, countedIf, walk-picked, picked-ordered}
-use Rattle.memory_range.specs.Laws.Walk.{walk-ordered, walk-ends}
+use Rattle.range_lists.specs.Laws.Picked.{picked, countedIf, walk-picked, picked-ordered}
+use Rattle.range_lists.specs.Laws.Walk.{walk-ordered, walk-ends}
 use Rattle.boot_ram.specs.File.{onNodeOf}
-use Rattle.boot_ram.specs.Held.{AtPage, PagedRange, Paged}
-use Rattle.boot_ram.specs.Take.{onNode}
+use Rattle.boot_ram.specs.Held.{AtPage, PagedRange, Paged, onNode}
 
 -- the ranges of the entries whose node passes a test: of one node, or of all
 abbrev pub rangesFor : (ℕ → Bool) → List TaggedRange → List MemoryRange

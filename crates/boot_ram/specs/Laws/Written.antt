@@ -1,15 +1,15 @@
 -- Laws of numbers that are written into an array one after the other: what it holds afterwards; and entries whose
 -- fields are written into three arrays are found again in the first places.
 use Prim.Native.Nat.{ℕ, suc, _+_, _≤_}
-use mathlib.Core.Path.{_≡_, refl, ap, _∙_}
+use mathlib.Core.Path.{_≡_, refl, _∙_}
 use mathlib.Core.List.{List, [], _∷_, _++_}
 use native.Mathlib.Numerals.{add-one}
 use native.Mathlib.Omega.{arith}
 use lib.ListN.{length, take, drop, set, length-set}
 use lib.Seq.{sets, sets-eq, take-append-seam, drop-append-seam}
 use Rattle.memory_range.specs.declared.range.TaggedRange.{TaggedRange}
-use Rattle.memory_range.specs.List.{taggedOf, startsOf, endsOf, tagsOf}
-use Rattle.boot_ram.specs.Take.{firstEntries}
+use Rattle.memory_range.specs.List.{startsOf, endsOf, tagsOf, firstTagged}
+use Rattle.memory_range.specs.Laws.List.{length-starts, length-ends, length-tags, fields-tagged}
 use Rattle.boot_ram.specs.Verdict.{written}
 
 pub length-written : (k : ℕ) (xs l : List ℕ) → length (written k xs l) ≡ length l
@@ -43,19 +43,7 @@ written-append k (x ∷ xs) ys l =
     let e : k + suc (length xs) ≡ k + 1 + length xs = omega arith in
     rw e (written-append (k + 1) xs ys (set l k x))
 
--- each field of entries: as many as there are entries, and one list's before another's
-pub length-starts : (xs : List TaggedRange) → length (startsOf xs) ≡ length xs
-length-starts [] = refl
-length-starts (x ∷ xs) = ap suc (length-starts xs)
-
-pub length-ends : (xs : List TaggedRange) → length (endsOf xs) ≡ length xs
-length-ends [] = refl
-length-ends (x ∷ xs) = ap suc (length-ends xs)
-
-pub length-tags : (xs : List TaggedRange) → length (tagsOf xs) ≡ length xs
-length-tags [] = refl
-length-tags (x ∷ xs) = ap suc (length-tags xs)
-
+-- each field of entries: one list's before another's
 pub starts-append : (xs ys : List TaggedRange) → startsOf (xs ++ ys) ≡ startsOf xs ++ startsOf ys
 starts-append [] ys = refl
 starts-append (x ∷ xs) ys = rw (starts-append xs ys)
@@ -68,14 +56,9 @@ pub tags-append : (xs ys : List TaggedRange) → tagsOf (xs ++ ys) ≡ tagsOf xs
 tags-append [] ys = refl
 tags-append (x ∷ xs) ys = rw (tags-append xs ys)
 
--- entries are their fields
-pub fields-tagged : (xs : List TaggedRange) → taggedOf (startsOf xs) (endsOf xs) (tagsOf xs) ≡ xs
-fields-tagged [] = refl
-fields-tagged (x ∷ xs) = rw (fields-tagged xs)
-
 -- entries that are written into three arrays stand in the first places
 pub first-written : (xs : List TaggedRange) (ss es ts : List ℕ) → length xs ≤ length ss → length xs ≤ length es → length xs ≤ length ts
-    → firstEntries (length xs) (written 0 (startsOf xs) ss) (written 0 (endsOf xs) es) (written 0 (tagsOf xs) ts) ≡ xs
+    → firstTagged (length xs) (written 0 (startsOf xs) ss) (written 0 (endsOf xs) es) (written 0 (tagsOf xs) ts) ≡ xs
 first-written xs ss es ts hs he ht =
     let s : take (length xs) (written 0 (startsOf xs) ss) ≡ startsOf xs =
     rw (← length-starts xs) (take-written (startsOf xs) ss (omega (arith, length-starts xs))) in

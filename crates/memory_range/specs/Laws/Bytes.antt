@@ -3,7 +3,7 @@
 use Prim.Native.Nat.{ℕ, suc, _+_, _-_, _≤_, _<_}
 use mathlib.Core.Path.{_≡_, refl}
 use mathlib.Core.Bool.{Bool, true, false, cond}
-use mathlib.Core.List.{List, [], _∷_}
+use mathlib.Core.List.{List, [], _∷_, _++_, reverse, reverse-cons}
 use mathlib.Core.Option.{Option, none, some, Option·some-injective, Option·none-ne-some}
 use native.Mathlib.Omega.{arith}
 use lib.Dec.{leb, ltb}
@@ -87,3 +87,17 @@ ordered-once a l o x = rw (holders-items 0 a l x o) (counted-once (itemFrom 0 l 
 pub all-map : {A : Type 0} {P Q : A → Type 0} → ((x : A) → P x → Q x) → (l : List A) → All P l → All Q l
 all-map f [] h = tt
 all-map f (x ∷ xs) h = (f x (h .0), all-map f xs (h .1))
+
+-- what holds of every element, in lists that are joined, cut in two or reversed
+module _ {A : Type 0} (P : A → Type 0) where
+  pub all-append : (xs ys : List A) → All P xs → All P ys → All P (xs ++ ys)
+  all-append [] ys h g = g
+  all-append (x ∷ xs) ys h g = (h .0, all-append xs ys (h .1) g)
+
+  pub all-split : (xs ys : List A) → All P (xs ++ ys) → All P xs × All P ys
+  all-split [] ys h = (tt, h)
+  all-split (x ∷ xs) ys h = let i = all-split xs ys (h .1) in ((h .0, i .0), i .1)
+
+  pub all-reverse : (xs : List A) → All P xs → All P (reverse xs)
+  all-reverse [] h = tt
+  all-reverse (x ∷ xs) h = rw (reverse-cons x xs) (all-append (reverse xs) (x ∷ []) (all-reverse xs (h .1)) (h .0, tt))

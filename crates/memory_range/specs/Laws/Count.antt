@@ -3,11 +3,11 @@
 use Prim.Native.Nat.{ℕ, suc, zero, _+_, _-_, _≤_, min, max}
 use mathlib.Core.Path.{_≡_, refl}
 use mathlib.Core.Bool.{cond}
-use mathlib.Core.List.{List, [], _∷_, _++_}
+use mathlib.Core.List.{List, [], _∷_}
 use native.Mathlib.Omega.{arith}
 use Rattle.memory_range.specs.declared.range.MemoryRange.{MemoryRange}
 use Rattle.memory_range.specs.Range.{holds}
-use Rattle.memory_range.specs.Bytes.{holders, byteCount, Ordered, All}
+use Rattle.memory_range.specs.Bytes.{holders, byteCount, All}
 use Rattle.memory_range.specs.Laws.Bytes.{Place, below, inside, above, place}
 
 -- the sum of f over the addresses below n

@@ -3,12 +3,14 @@
 use Prim.Native.Nat.{ℕ, suc, zero, _+_, _≤_, _<_, min}
 use mathlib.Core.Path.{_≡_, refl, ap}
 use mathlib.Core.List.{List, [], _∷_, _++_}
+use native.Mathlib.Decide.{decLt}
 use native.Mathlib.Omega.{arith}
 use native.Mathlib.Numerals.{add-one}
-use lib.ListN.{length, drop, getD, drop-of-length-le}
-use lib.Seq.{drop-cons}
+use lib.ListN.{length, take, drop, getD, length-take, drop-of-length-le}
+use lib.Seq.{take-all, drop-cons}
+use Rattle.memory_range.specs.declared.range.TaggedRange.{TaggedRange}
 use Rattle.memory_range.specs.Range.{range}
-use Rattle.memory_range.specs.List.{rangesOf, tagged, taggedOf, startsOf, endsOf, tagsOf}
+use Rattle.memory_range.specs.List.{rangesOf, rangesIn, tagged, taggedOf, firstTagged, startsOf, endsOf, tagsOf}
 
 pub length-ranges : (ss es : List ℕ) → length (rangesOf ss es) ≡ min (length ss) (length es)
 length-ranges [] es = omega arith
@@ -71,3 +73,48 @@ tags-tagged [] es ts = refl
 tags-tagged (s ∷ ss) [] ts = refl
 tags-tagged (s ∷ ss) (e ∷ es) [] = refl
 tags-tagged (s ∷ ss) (e ∷ es) (t ∷ ts) = ap (λ (l : List ℕ). t ∷ l) (tags-tagged ss es ts)
+
+-- each field of tagged ranges: as many as there are ranges, which are found again by all three
+pub length-starts : (xs : List TaggedRange) → length (startsOf xs) ≡ length xs
+length-starts [] = refl
+length-starts (x ∷ xs) = ap suc (length-starts xs)
+
+pub length-ends : (xs : List TaggedRange) → length (endsOf xs) ≡ length xs
+length-ends [] = refl
+length-ends (x ∷ xs) = ap suc (length-ends xs)
+
+pub length-tags : (xs : List TaggedRange) → length (tagsOf xs) ≡ length xs
+length-tags [] = refl
+length-tags (x ∷ xs) = ap suc (length-tags xs)
+
+pub fields-tagged : (xs : List TaggedRange) → taggedOf (startsOf xs) (endsOf xs) (tagsOf xs) ≡ xs
+fields-tagged [] = refl
+fields-tagged (x ∷ xs) = rw (fields-tagged xs)
+
+-- where there are tags enough, the ranges are those of the tagged ranges
+pub ranges-alike : (ss es ts : List ℕ) → length ss ≤ length ts → rangesIn (taggedOf ss es ts) ≡ rangesOf ss es
+ranges-alike [] es ts h = refl
+ranges-alike (s ∷ ss) [] ts h = refl
+ranges-alike (s ∷ ss) (e ∷ es) [] h = absurd (omega arith)
+ranges-alike (s ∷ ss) (e ∷ es) (t ∷ ts) h = rw (ranges-alike ss es ts (omega arith))
+
+-- the first k of the tagged ranges, and how many these are
+pub first-tagged : (k : ℕ) (ss es ts : List ℕ) → firstTagged k ss es ts ≡ take k (taggedOf ss es ts)
+first-tagged zero ss es ts = refl
+first-tagged (suc k) [] es ts = refl
+first-tagged (suc k) (s ∷ ss) [] ts = refl
+first-tagged (suc k) (s ∷ ss) (e ∷ es) [] = refl
+first-tagged (suc k) (s ∷ ss) (e ∷ es) (t ∷ ts) = ap (λ (l : List TaggedRange). tagged s e t ∷ l) (first-tagged k ss es ts)
+
+pub length-first : (k : ℕ) (ss es ts : List ℕ) → length (firstTagged k ss es ts) ≡ min k (min (length ss) (min (length es) (length ts)))
+length-first k ss es ts = rw (first-tagged, length-take, length-tagged)
+
+-- asking for more than there are gives all
+pub first-min : (k j : ℕ) (ss es ts : List ℕ) → j ≡ min k (length (taggedOf ss es ts)) → firstTagged j ss es ts ≡ firstTagged k ss es ts
+first-min k j ss es ts e =
+    let l = taggedOf ss es ts in
+    rw (first-tagged j ss es ts, first-tagged k ss es ts)
+    (elim (decLt (length l) k) [
+      | yes h ↦ rw (take-all j l (omega arith), take-all k l (omega arith))
+      | no h ↦ let g : j ≡ k = omega arith in rw g
+    ])

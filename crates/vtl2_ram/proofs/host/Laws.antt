@@ -10,11 +10,11 @@ use lib.ListN.{length, take, set, length-replicate}
 use lib.Seq.{take-all, take-nil}
 use Rattle.memory_range.specs.declared.range.MemoryRange.{MemoryRange}
 use Rattle.memory_range.specs.declared.range.TaggedRange.{TaggedRange}
-use Rattle.memory_range.specs.List.{tagged, startsOf, endsOf, tagsOf}
+use Rattle.memory_range.specs.List.{tagged, startsOf, endsOf, tagsOf, firstTagged}
 use Rattle.memory_range.specs.Valid.{pageSize}
-use Rattle.boot_ram.specs.declared.count.Counted.{Counted}
-use Rattle.boot_ram.specs.declared.count.Counted.the-variants.{Count, Refused}
-use Rattle.boot_ram.specs.Take.{bytesOf, firstEntries}
+use Rattle.refusal.specs.declared.answer.Counted.{Counted}
+use Rattle.refusal.specs.declared.answer.Counted.the-variants.{Count, Refused}
+use Rattle.boot_ram.specs.Held.{bytesOf}
 use Rattle.boot_ram.specs.Verdict.{maxChosen, written}
 use Rattle.refusal.specs.Number.{shareTooLarge, tooManyPieces}
 use Rattle.vtl2_ram.specs.Choice.{refused, chosen}
@@ -107,13 +107,13 @@ protectable-all file (x ∷ xs) h k = rw (le-ltb maxChosen (length (x ∷ xs)) k
 module _ (xs : List TaggedRange) (n : ℕ) {ss es ts : List ℕ} (size : length xs ≡ n) (within : n ≤ maxChosen)
     (p : ss ≡ written 0 (startsOf (take maxChosen xs)) zeros) (q : es ≡ written 0 (endsOf (take maxChosen xs)) zeros)
     (r : ts ≡ written 0 (tagsOf (take maxChosen xs)) zeros) where
-  pub protectable-entries : firstEntries n ss es ts ≡ xs
+  pub protectable-entries : firstTagged n ss es ts ≡ xs
   protectable-entries =
       let whole = take-all maxChosen xs (omega arith) in
       let room : length xs ≤ length zeros = omega (arith, length-replicate {A = ℕ} maxChosen 0) in
       rw (p, q, r, whole, ← size) (first-written xs zeros zeros zeros room room room)
 
-  pub protectable-ram-of : ramWith n (bytesOf (firstEntries n ss es ts)) ss es ts ≡ ramOf xs
+  pub protectable-ram-of : ramWith n (bytesOf (firstTagged n ss es ts)) ss es ts ≡ ramOf xs
   protectable-ram-of =
       let whole = take-all maxChosen xs (omega arith) in
       rw protectable-entries (rw (p, q, r, whole, size))

@@ -1,10 +1,9 @@
 -- Laws for selection: what it comes to by the answer of the rows, and what rows that pass say of the lists.
 use Prim.Native.Nat.{ℕ}
-use mathlib.Core.Path.{_≡_, refl}
+use mathlib.Core.Path.{_≡_}
 use mathlib.Core.Bool.{Bool, true}
 use mathlib.Core.List.{List}
-use mathlib.Core.Option.{Option, none, some}
-use native.Mathlib.Omega.{arith}
+use mathlib.Core.Option.{Option}
 use Rattle.memory_range.specs.declared.range.MemoryRange.{MemoryRange}
 use Rattle.memory_range.specs.Bytes.{Ordered}
 use Rattle.memory_range.specs.List.{rangesIn, rangesOf, taggedOf}
@@ -14,23 +13,17 @@ use Rattle.host_params.specs.declared.IsolationType.{IsolationType}
 use Rattle.host_params.specs.declared.MemoryAllocationMode.{MemoryAllocationMode}
 use Rattle.host_params.specs.declared.MemoryAllocationMode.the-variants.{Host, Vtl2}
 use Rattle.host_params.specs.declared.OptionU64.{OptionU64}
-use Rattle.vtl2_ram.specs.declared.rows.Rows.the-variants.{Passed, Refused}
+use Rattle.refusal.specs.declared.answer.Rows.the-variants.{Passed, Refused}
+use Rattle.refusal.specs.Laws.Answer.{rows-refused, rows-none}
 use Rattle.vtl2_ram.specs.Boot.{RowsPassed, bootChoice}
 use Rattle.vtl2_ram.specs.Choice.{refused}
 use Rattle.vtl2_ram.specs.Host.{hostChoice}
 use Rattle.vtl2_ram.specs.Map.{mapOf, SameLengths, mapRanges}
-use Rattle.vtl2_ram.specs.Rows.{rowsRefusal, rowsAs}
+use Rattle.vtl2_ram.specs.Rows.{rowsRefusal}
+use Rattle.refusal.specs.Answer.{rowsAs}
 use Rattle.vtl2_ram.specs.Select.{choice}
 use Rattle.vtl2_ram.specs.Laws.Map.{map-ranges, map-entries}
 use Rattle.vtl2_ram.specs.Laws.Rows.{rows-passed}
-
-rows-refused : (row : Option ℕ) {n : ℕ} → rowsAs row ≡ Refused n → row ≡ some n
-rows-refused none e = let z : _≡_ {A = ℕ} 0 1 = cc in absurd (omega arith)
-rows-refused (some r) e = cc
-
-rows-none : (row : Option ℕ) → rowsAs row ≡ Passed → row ≡ none
-rows-none none e = refl
-rows-none (some r) e = let z : _≡_ {A = ℕ} 0 1 = cc in absurd (omega arith)
 
 module _ (mode : MemoryAllocationMode) (file : MemoryRange) (ss es ns : List ℕ) (ls : List Bool) (imports : List MemoryRange)
     (same : SameLengths ss es ns ls) where

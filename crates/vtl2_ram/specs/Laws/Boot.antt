@@ -11,27 +11,27 @@ use Rattle.memory_range.specs.declared.range.MemoryRange.{MemoryRange}
 use Rattle.memory_range.specs.declared.range.TaggedRange.{TaggedRange}
 use Rattle.memory_range.specs.List.{tagsOf}
 use Rattle.memory_range.specs.Range.{lengthOf}
-use Rattle.memory_range.specs.Sort.{sortByStart}
+use Rattle.range_lists.specs.Sort.{sortByStart}
 use Rattle.host_params.specs.declared.IsolationType.{IsolationType}
 use Rattle.host_params.specs.declared.OptionU64.{OptionU64}
 use Rattle.host_params.specs.declared.OptionU64.the-variants.{Some, None}
-use Rattle.boot_ram.specs.declared.count.Counted.the-variants as count
+use Rattle.refusal.specs.declared.answer.Counted.the-variants as count
 use Rattle.boot_ram.specs.File.{fileWalk}
 use Rattle.boot_ram.specs.Import.{importsClear, importWalk}
-use Rattle.boot_ram.specs.Node.{distinct, nodesBad, nodesCounted}
-use Rattle.boot_ram.specs.Share.{shareOf}
-use Rattle.boot_ram.specs.Take.{taking, countUp}
+use Rattle.boot_nodes.specs.Node.{distinct, nodesBad, nodesCounted, countUp}
+use Rattle.boot_nodes.specs.Share.{shareOf}
+use Rattle.boot_take.specs.Take.{taking}
 use Rattle.boot_ram.specs.Verdict.{maxChosen, ends}
-use Rattle.boot_ram.specs.Laws.Answer.{not-refused, nodes-refused, nodes-counted}
-use Rattle.boot_ram.specs.Laws.Bounds.{taking-bounds}
+use Rattle.boot_nodes.specs.Laws.Node.{nodes-refused, nodes-counted, nodes-count-up}
+use Rattle.boot_take.specs.Laws.Bounds.{taking-bounds}
 use Rattle.boot_ram.specs.Laws.Judged.{WithinBounds}
-use Rattle.boot_ram.specs.Laws.Node.{nodes-count-up}
 use Rattle.refusal.specs.Number.{nodeNumbers, ramSizeBelowFile, importCrossesFile}
+use Rattle.refusal.specs.Rows.{downward}
+use Rattle.refusal.specs.Laws.Rows.{not-refused, downward-last}
 use Rattle.vtl2_ram.specs.declared.boot.NodeShare.{NodeShare}
 use Rattle.vtl2_ram.specs.declared.boot.NodeShare.the-variants.{Bytes, Refused}
 use Rattle.vtl2_ram.specs.Boot.{sizeWanted, shareTooLargeFor, shareRefusal, shareAs, afterImports, besideFile, bootParts, bootChoice}
-use Rattle.vtl2_ram.specs.Choice.{Choice, refused, chosen, downward}
-use Rattle.vtl2_ram.specs.Laws.Choice.{downward-last}
+use Rattle.vtl2_ram.specs.Choice.{Choice, refused, chosen}
 
 -- rows 8 and 9: a size below the file's is refused; else the share of the size, or of the file's, is the answer
 module _ (file : MemoryRange) (n : ℕ) where

@@ -14,19 +14,19 @@ use Rattle.memory_range.specs.List.{rangesIn, tagsOf}
 use Rattle.memory_range.specs.Range.{holds, lengthOf}
 use Rattle.memory_range.specs.Laws.Bytes.{Place, below, inside, above, place}
 use Rattle.memory_range.specs.Laws.Count.{bytes-same}
-use Rattle.memory_range.specs.Laws.Node.{has, AscendsFrom}
+use Rattle.range_lists.specs.Laws.Node.{has, AscendsFrom}
 use Rattle.host_params.specs.declared.IsolationType.{IsolationType}
 use Rattle.boot_ram.specs.File.{fileWalk}
-use Rattle.boot_ram.specs.Held.{holdersOn}
+use Rattle.boot_ram.specs.Held.{holdersOn, onNode, bytesOf}
 use Rattle.boot_ram.specs.Import.{importWalk}
-use Rattle.boot_ram.specs.Node.{distinct}
-use Rattle.boot_ram.specs.Share.{shareStep}
-use Rattle.boot_ram.specs.Take.{onNode, bytesOf, taking}
+use Rattle.boot_nodes.specs.Node.{distinct}
+use Rattle.boot_nodes.specs.Share.{shareStep}
+use Rattle.boot_take.specs.Take.{taking}
 use Rattle.boot_ram.specs.Laws.File.{file-chosen}
 use Rattle.boot_ram.specs.Laws.ByNode.{sort-bytes-on, bytes-join}
-use Rattle.boot_ram.specs.Laws.Node.{distinct-members}
+use Rattle.boot_nodes.specs.Laws.Node.{distinct-members}
 use Rattle.boot_ram.specs.Laws.OnNode.{on-append}
-use Rattle.boot_ram.specs.Laws.Taking.{taking-bytes}
+use Rattle.boot_take.specs.Laws.Taking.{taking-bytes}
 use Rattle.vtl2_ram.specs.Boot.{RowsPassed}
 use Rattle.vtl2_ram.specs.Claim.{common, fileBytesOn, dueOn, BootClaim}
 use Rattle.vtl2_ram.specs.Laws.Parts.{Accepted, file-full, map-ordered, parts-in-map, parts-file, parts-imports}

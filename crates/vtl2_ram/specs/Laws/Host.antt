@@ -15,7 +15,7 @@ use Rattle.memory_range.specs.Valid.{pageSize, validRange, allValid, ascend}
 use Rattle.memory_range.specs.Laws.Valid.{valid-parts, valid-range, valid-ordered, ordered-ascend}
 use Rattle.host_params.specs.declared.IsolationType.{IsolationType}
 use Rattle.host_params.specs.declared.MemoryEntry.{MemoryEntry}
-use Rattle.boot_ram.specs.Take.{bytesOf}
+use Rattle.boot_ram.specs.Held.{bytesOf}
 use Rattle.boot_ram.specs.Verdict.{maxChosen}
 use Rattle.vtl2_ram.specs.Choice.{Choice, refused, chosen}
 use Rattle.vtl2_ram.specs.Host.{isHardwareIsolated, isolatedEnd, isolatedChoice, protectableChoice, hostChoice}

@@ -15,30 +15,34 @@ use Rattle.memory_range.specs.declared.range.TaggedRange.{TaggedRange}
 use Rattle.memory_range.specs.Bytes.{holders, Ordered, All}
 use Rattle.memory_range.specs.List.{rangesIn}
 use Rattle.memory_range.specs.Range.{holds}
-use Rattle.memory_range.specs.Sort.{sortByStart}
+use Rattle.range_lists.specs.Sort.{sortByStart}
 use Rattle.memory_range.specs.Laws.Bytes.{ordered-once, all-map}
-use Rattle.memory_range.specs.Laws.Node.{AscendsFrom}
-use Rattle.memory_range.specs.Laws.Sort.{sort-ordered, sort-all, sort-holders, sort-length}
+use Rattle.range_lists.specs.Laws.Node.{AscendsFrom}
+use Rattle.range_lists.specs.Laws.Sort.{sort-ordered, sort-all, sort-holders, sort-length}
 use Rattle.memory_range.specs.Valid.{pageSize}
 use Rattle.memory_range.specs.Laws.Valid.{valid-parts, valid-ordered}
 use Rattle.host_params.specs.declared.IsolationType.{IsolationType}
 use Rattle.boot_ram.specs.File.{fileWalk}
 use Rattle.boot_ram.specs.Held.{holdersOn, AtPage, PagedRange, Paged}
 use Rattle.boot_ram.specs.Import.{importsClear, isTdx, importWalk}
-use Rattle.boot_ram.specs.Take.{countUp, taking}
-use Rattle.boot_ram.specs.Verdict.{Judged, maxChosen, refusedIf}
+use Rattle.boot_nodes.specs.Node.{countUp}
+use Rattle.boot_take.specs.Take.{taking}
+use Rattle.boot_ram.specs.Verdict.{Judged, maxChosen}
 use Rattle.boot_ram.specs.Laws.File.{file-chosen, file-free, file-in-map, file-free-ordered, file-paged}
 use Rattle.boot_ram.specs.Laws.Import.{import-free, import-in-map, import-paged}
-use Rattle.boot_ram.specs.Laws.Bounds.{file-bounds, taking-bounds}
+use Rattle.boot_take.specs.Laws.Bounds.{file-bounds, taking-bounds}
 use Rattle.boot_ram.specs.Laws.ByNode.{sort-holders-on, by-nodes}
-use Rattle.boot_ram.specs.Laws.Node.{count-ascends}
-use Rattle.boot_ram.specs.Laws.OnNode.{all-append, holders-append}
+use Rattle.boot_nodes.specs.Laws.Node.{count-ascends}
+use Rattle.memory_range.specs.Laws.Bytes.{all-append}
+use Rattle.boot_ram.specs.Laws.OnNode.{holders-append}
 use Rattle.boot_ram.specs.Laws.Paged.{all-paged, entries-paged}
-use Rattle.boot_ram.specs.Laws.Taking.{taking-held, taking-paged}
+use Rattle.boot_take.specs.Laws.Taking.{taking-held, taking-paged}
 use Rattle.refusal.specs.Number.{importCrossesFile}
+use Rattle.refusal.specs.Rows.{refusedIf, downward}
+use Rattle.refusal.specs.Laws.Rows.{downward-none}
 use Rattle.vtl2_ram.specs.Boot.{nextUnless, andThen, afterImports, besideFile, bootParts, RowsPassed}
-use Rattle.vtl2_ram.specs.Choice.{Choice, refused, chosen, entriesOf, downward}
-use Rattle.vtl2_ram.specs.Laws.Choice.{unless-chosen, downward-none}
+use Rattle.vtl2_ram.specs.Choice.{Choice, refused, chosen, entriesOf}
+use Rattle.vtl2_ram.specs.Laws.Choice.{unless-chosen}
 
 -- a part that is accepted, and the next one
 next-none : (u : Option ℕ) (next : Judged) → nextUnless u next .refusal ≡ none → (u ≡ none) × (nextUnless u next ≡ next)

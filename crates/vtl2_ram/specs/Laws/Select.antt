@@ -7,7 +7,7 @@ use Rattle.memory_range.specs.declared.range.MemoryRange.{MemoryRange}
 use Rattle.memory_range.specs.declared.range.TaggedRange.{TaggedRange}
 use Rattle.memory_range.specs.List.{rangesIn, tagged, tagsOf}
 use Rattle.memory_range.specs.Range.{range}
-use Rattle.memory_range.specs.Walk.{walkFrom}
+use Rattle.range_lists.specs.Walk.{walkFrom}
 use Rattle.memory_range.specs.Laws.Valid.{ordered-ascend}
 use Rattle.host_params.specs.declared.IsolationType.{IsolationType}
 use Rattle.host_params.specs.declared.IsolationType.the-variants as isolation
@@ -19,14 +19,14 @@ use Rattle.host_params.specs.declared.OptionU64.{OptionU64}
 use Rattle.host_params.specs.declared.OptionU64.the-variants as option
 use Rattle.boot_ram.specs.File.{fileWalk}
 use Rattle.boot_ram.specs.Import.{importWalk}
-use Rattle.boot_ram.specs.Node.{nodesBad}
-use Rattle.boot_ram.specs.Take.{taking}
-use Rattle.boot_ram.specs.Verdict.{refusedIf}
-use Rattle.boot_ram.specs.Laws.Node.{distinct-ascends}
+use Rattle.boot_nodes.specs.Node.{nodesBad}
+use Rattle.boot_take.specs.Take.{taking}
+use Rattle.boot_nodes.specs.Laws.Node.{distinct-ascends}
 use Rattle.boot_ram.specs.Laws.Paged.{entries-valid}
 use Rattle.refusal.specs.Number.{nodeNumbers}
+use Rattle.refusal.specs.Rows.{refusedIf, downward}
 use Rattle.vtl2_ram.specs.Boot.{shareRefusal, afterImports, besideFile, bootParts, bootChoice, RowsPassed}
-use Rattle.vtl2_ram.specs.Choice.{chosen, downward}
+use Rattle.vtl2_ram.specs.Choice.{chosen}
 use Rattle.vtl2_ram.specs.Claim.{nodesIn, shareIn, InOrder, BootClaim}
 use Rattle.vtl2_ram.specs.Map.{mapRanges, entriesIn}
 use Rattle.vtl2_ram.specs.Rows.{rowsRefusal}

@@ -10,16 +10,16 @@ use borrow.Author.Needs.{needs}
 use lib.ListN.{length, length-take}
 use Rattle.memory_range.specs.declared.range.MemoryRange.{MemoryRange}
 use Rattle.memory_range.specs.declared.range.TaggedRange.{TaggedRange}
-use Rattle.memory_range.specs.declared.walk.RangeWalkResult.{RangeWalkResult}
-use Rattle.memory_range.specs.declared.walk.WalkCursor.{WalkCursor}
-use Rattle.memory_range.specs.declared.walk.WalkPiece.{WalkPiece}
+use Rattle.range_lists.specs.declared.walk.RangeWalkResult.{RangeWalkResult}
+use Rattle.range_lists.specs.declared.walk.WalkCursor.{WalkCursor}
+use Rattle.range_lists.specs.declared.walk.WalkPiece.{WalkPiece}
 use Rattle.memory_range.specs.List.{rangesIn, rangesOf, taggedOf, startsOf, endsOf, tagsOf}
-use Rattle.memory_range.specs.Walk.{walk, walkFrom, walkStepped}
+use Rattle.range_lists.specs.Walk.{walk, walkFrom, walkStepped}
 use Rattle.memory_range.specs.Laws.List.{length-tagged}
 use Rattle.refusal.specs.Number.{fileNotInMap, tooManyPieces}
 use Rattle.boot_ram.specs.File.{fileVerdicts, fileWalk, filePieces, filePiecesAs}
 use Rattle.boot_ram.specs.Verdict.{Verdict, Judged, judged, written}
-use Rattle.boot_ram.specs.Laws.Entries.{entries-step, next-piece, entries-items, tag-tagged}
+use Rattle.range_lists.specs.Laws.Entries.{entries-step, next-piece, entries-items, tag-tagged}
 use Rattle.boot_ram.specs.Laws.Verdict.{judged-free, judged-free-full, judged-choose, judged-choose-full}
 use Rattle.boot_ram.specs.Laws.Verdict.{Writes, writes-all, writes-next, writes-none}
 use Rattle.boot_ram.proofs.file.walk_file.Statement.{statement}
@@ -130,11 +130,6 @@ mul-node c =
     let r = c .before .before in
     omega (arith, free-item r .1, entry (at-loop (r .before .before .before .before)) .good)
 
-put-piece-requires : tie.Need-put-piece-requires Inv-loop μ-loop
-put-piece-requires c κs =
-    let l = at-loop (c .before .before .before .before .before .before .before .before .before .before) in
-    omega (arith, l .loop .inv .1 .lengths, entry l .good)
-
 returns-3 : tie.Need-returns-3 Inv-loop μ-loop
 unfolding fileWalk
 returns-3 c =
@@ -149,11 +144,6 @@ mul-node-2 c =
     let r = c .before .before in
     omega (arith, chosen-item r .1, entry (at-loop (r .before .before .before .before)) .good)
 
-put-piece-requires-2 : tie.Need-put-piece-requires-2 Inv-loop μ-loop
-put-piece-requires-2 c κs =
-    let l = at-loop (c .before .before .before .before .before .before .before .before .before .before) in
-    omega (arith, l .loop .inv .2 .lengths, entry l .good)
-
 loop-again : tie.Need-loop-again Inv-loop μ-loop
 loop-again c =
     let r = c .before .before .before .before .before .before .before in
@@ -163,7 +153,7 @@ loop-again c =
     let room = c .before .before .before .before .before .if1 .left in
     let e = judged-free (l .loop .free) (l .loop .chosen) (ap (verdicts l) (turn p (r .result .given .1))) room in
     let i = rw e at (l .loop .inv) in
-    let q = c .put-piece .ensures in
+    let q = c .put-range .ensures in
     let node = tag-tagged (a .map-starts .now) (a .map-ends .now) (a .map-nodes .now) _ (free-item r .0) in
     (i .0, writes-next (q .0) (q .1 .0) (q .1 .1) node (i .1), i .2)
 
@@ -176,7 +166,7 @@ loop-again-2 c =
     let room = c .before .before .before .before .before .if2 .left in
     let e = judged-choose (l .loop .free) (l .loop .chosen) (ap (verdicts l) (turn p (r .result2 .given .1))) room in
     let i = rw e at (l .loop .inv) in
-    let q = c .put-piece2 .ensures in
+    let q = c .put-range2 .ensures in
     let node = tag-tagged (a .map-starts .now) (a .map-ends .now) (a .map-nodes .now) _ (chosen-item r .0) in
     (i .0, i .1, writes-next (q .0) (q .1 .0) (q .1 .1) node (i .2))
 
@@ -209,13 +199,13 @@ walk-file-spec =
     returns-2
     mul-node
     (λ c. free-item (c .before .before .before) .1)
-    put-piece-requires
+    (λ c κs. search needs)
     (λ c. search needs)
     (λ c. search needs)
     returns-3
     mul-node-2
     (λ c. chosen-item (c .before .before .before) .1)
-    put-piece-requires-2
+    (λ c κs. search needs)
     (λ c. search needs)
     (λ c. omega (arith, ap length (turn (c .before .before .before .before .before .before .before .before .before .before .before) refl)))
     loop-again

@@ -12,16 +12,17 @@ use borrow.Author.Tests.{not-true, not-false}
 use lib.ListN.{length, length-take}
 use Rattle.memory_range.specs.declared.range.MemoryRange.{MemoryRange}
 use Rattle.memory_range.specs.declared.range.TaggedRange.{TaggedRange}
-use Rattle.memory_range.specs.declared.walk.RangeWalkResult.{RangeWalkResult}
-use Rattle.memory_range.specs.declared.walk.WalkCursor.{WalkCursor}
-use Rattle.memory_range.specs.declared.walk.WalkPiece.{WalkPiece}
+use Rattle.range_lists.specs.declared.walk.RangeWalkResult.{RangeWalkResult}
+use Rattle.range_lists.specs.declared.walk.WalkCursor.{WalkCursor}
+use Rattle.range_lists.specs.declared.walk.WalkPiece.{WalkPiece}
 use Rattle.memory_range.specs.List.{rangesIn, rangesOf, taggedOf, startsOf, endsOf, tagsOf}
-use Rattle.memory_range.specs.Walk.{walk, walkFrom, walkStepped}
+use Rattle.range_lists.specs.Walk.{walk, walkFrom, walkStepped}
 use Rattle.memory_range.specs.Laws.List.{length-ranges, length-tagged, getD-ranges}
 use Rattle.refusal.specs.Number.{importNotInMap, tooManyPieces}
 use Rattle.boot_ram.specs.Import.{importVerdicts, importWalk}
-use Rattle.boot_ram.specs.Verdict.{Verdict, refuse, pass, Judged, judged, written, countedAs, freeCounted}
-use Rattle.boot_ram.specs.Laws.Entries.{entries-step, next-piece, entries-items, tag-tagged}
+use Rattle.boot_ram.specs.Verdict.{Verdict, refuse, pass, Judged, judged, written, freeCounted}
+use Rattle.refusal.specs.Answer.{countedAs}
+use Rattle.range_lists.specs.Laws.Entries.{entries-step, next-piece, entries-items, tag-tagged}
 use Rattle.boot_ram.specs.Laws.Verdict.{Writes, writes-all, writes-next, writes-none, judged-free, judged-free-full}
 use Rattle.boot_ram.proofs.import.walk_imports.Statement.{statement}
 use Rattle.boot_ram.proofs.import.walk_imports.Tie as tie
@@ -146,11 +147,6 @@ mul-node c =
     let r = c .before .before in
     omega (arith, free-item r .1, entry (at-loop (r .before .before .before .before)) .good)
 
-put-piece-requires : tie.Need-put-piece-requires Inv-loop μ-loop
-put-piece-requires c κs =
-    let l = at-loop (c .before .before .before .before .before .before .before .before .before .before) in
-    omega (arith, l .loop .inv .1 .lengths, entry l .good)
-
 loop-again : tie.Need-loop-again Inv-loop μ-loop
 loop-again c =
     let l = at-loop (c .before .before .before .before .before .before .before .before .before) in
@@ -164,7 +160,7 @@ loop-again-2 c =
     let a = entry l .args in
     let e = judged-free (l .loop .free) 0 (ap (verdicts l) (turn p (r .result2 .given .1))) (c .before .before .before .before .before .if2 .left) in
     let i = rw e at (l .loop .inv) in
-    let q = c .put-piece .ensures in
+    let q = c .put-range .ensures in
     let node = tag-tagged (a .found-starts .now) (a .found-ends .now) (a .found-nodes .now) _ (free-item r .0) in
     (i .0, writes-next (q .0) (q .1 .0) (q .1 .1) node (i .1))
 
@@ -204,7 +200,7 @@ walk-imports-spec =
     returns-2
     mul-node
     (λ c. free-item (c .before .before .before) .1)
-    put-piece-requires
+    (λ c κs. search needs)
     (λ c. search needs)
     (λ c. search needs)
     (λ c. omega (arith, ap length (turn (c .before .before .before .before .before .before .before .before .before) refl)))

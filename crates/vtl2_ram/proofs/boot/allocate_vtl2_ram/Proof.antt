@@ -6,9 +6,9 @@ use borrow.Author.Needs.{needs}
 use Rattle.memory_range.specs.declared.range.MemoryRange.{MemoryRange}
 use Rattle.memory_range.specs.declared.range.TaggedRange.{TaggedRange}
 use Rattle.memory_range.specs.List.{rangesOf, taggedOf, tagsOf}
-use Rattle.boot_ram.specs.declared.count.Counted.the-variants as count
-use Rattle.boot_ram.specs.Node.{nodesCounted}
-use Rattle.boot_ram.specs.Laws.Answer.{nodes-counted}
+use Rattle.refusal.specs.declared.answer.Counted.the-variants as count
+use Rattle.boot_nodes.specs.Node.{nodesCounted}
+use Rattle.boot_nodes.specs.Laws.Node.{nodes-counted}
 use Rattle.vtl2_ram.specs.Ram.{ramAs}
 use Rattle.vtl2_ram.specs.Laws.Boot.{choice-nodes, choice-share, choice-parts}
 use Rattle.vtl2_ram.proofs.boot.allocate_vtl2_ram.Statement.{statement}

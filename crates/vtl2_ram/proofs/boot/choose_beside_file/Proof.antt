@@ -11,15 +11,15 @@ use lib.ListN.{length, drop, length-append}
 use lib.Seq.{length-take-le}
 use Rattle.memory_range.specs.declared.range.MemoryRange.{MemoryRange}
 use Rattle.memory_range.specs.declared.range.TaggedRange.{TaggedRange}
-use Rattle.memory_range.specs.List.{rangesOf, taggedOf}
-use Rattle.memory_range.specs.Sort.{sortByStart}
-use Rattle.memory_range.specs.Laws.Sort.{sort-length}
+use Rattle.memory_range.specs.List.{rangesOf, taggedOf, firstTagged}
+use Rattle.range_lists.specs.Sort.{sortByStart}
+use Rattle.range_lists.specs.Laws.Sort.{sort-length}
 use Rattle.boot_ram.specs.Import.{importsClear}
-use Rattle.boot_ram.specs.Take.{firstEntries, countUp}
+use Rattle.boot_nodes.specs.Node.{countUp}
 use Rattle.boot_ram.specs.Verdict.{Judged, maxChosen}
-use Rattle.boot_ram.specs.Laws.Answer.{counted-refused, counted-count}
-use Rattle.boot_ram.specs.Laws.Stored.{Stored, Found, stored-lengths, stored-found, stored-more, stored-sorted}
-use Rattle.boot_ram.specs.Laws.TakeSteps.{length-first}
+use Rattle.refusal.specs.Laws.Answer.{counted-refused, counted-count}
+use Rattle.boot_take.specs.Laws.Stored.{Stored, Found, stored-lengths, stored-found, stored-more, stored-sorted}
+use Rattle.memory_range.specs.Laws.List.{length-first}
 use Rattle.vtl2_ram.specs.Boot.{afterImports, besideFile}
 use Rattle.vtl2_ram.specs.Choice.{Choice, chosen}
 use Rattle.vtl2_ram.specs.Ram.{ramAs}
@@ -40,7 +40,7 @@ found s = taggedOf (s .args .found-starts .now) (s .args .found-ends .now) (s .a
 
 -- t10 to t12 are the RAM arrays as given: a parameter that is `mut` keeps no name
 abbrev pieces : tie.Start → List TaggedRange
-pieces s = firstEntries (s .args .file-pieces) (s .args .t10) (s .args .t11) (s .args .t12)
+pieces s = firstTagged (s .args .file-pieces) (s .args .t10) (s .args .t11) (s .args .t12)
 
 abbrev taken : tie.Start → Judged
 taken s = afterImports (s .args .isolation) (s .args .file) (imports s) (found s) (s .args .share) (pieces s) (countUp 0 (s .args .numa-node-count))

@@ -11,11 +11,11 @@ use Rattle.memory_range.specs.declared.range.MemoryRange.{MemoryRange}
 use Rattle.memory_range.specs.declared.range.TaggedRange.{TaggedRange}
 use Rattle.memory_range.specs.List.{rangesOf, taggedOf}
 use Rattle.boot_ram.specs.File.{fileWalk}
-use Rattle.boot_ram.specs.Take.{countUp}
+use Rattle.boot_nodes.specs.Node.{countUp}
 use Rattle.boot_ram.specs.Verdict.{Judged, maxFree, maxChosen}
 use Rattle.boot_ram.specs.Laws.Answer.{pieces-refused, pieces-count}
-use Rattle.boot_ram.specs.Laws.Bounds.{file-bounds}
-use Rattle.boot_ram.specs.Laws.Stored.{Stored, Found, stored-found}
+use Rattle.boot_take.specs.Laws.Bounds.{file-bounds}
+use Rattle.boot_take.specs.Laws.Stored.{Stored, Found, stored-found}
 use Rattle.vtl2_ram.specs.Boot.{besideFile, bootParts}
 use Rattle.vtl2_ram.specs.Ram.{ramAs}
 use Rattle.vtl2_ram.specs.Laws.Boot.{parts-file, parts-beside}

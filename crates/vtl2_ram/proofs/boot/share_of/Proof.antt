@@ -1,6 +1,6 @@
 use mathlib.Core.Path.{sym, _∙_}
 use borrow.Author.Needs.{needs}
-use Rattle.boot_ram.specs.Laws.Share.{share-within, share-beyond}
+use Rattle.boot_nodes.specs.Laws.Share.{share-within, share-beyond}
 use Rattle.vtl2_ram.proofs.boot.share_of.Statement.{statement}
 use Rattle.vtl2_ram.proofs.boot.share_of.Tie as tie
 

@@ -8,13 +8,13 @@ use borrow.Author.Needs.{needs}
 use lib.ListN.{length}
 use Rattle.memory_range.specs.declared.range.MemoryRange.{MemoryRange}
 use Rattle.memory_range.specs.declared.range.TaggedRange.{TaggedRange}
-use Rattle.memory_range.specs.List.{rangesOf, taggedOf}
+use Rattle.memory_range.specs.List.{rangesOf, taggedOf, firstTagged}
 use Rattle.boot_ram.specs.Import.{importWalk}
-use Rattle.boot_ram.specs.Take.{firstEntries, countUp}
+use Rattle.boot_nodes.specs.Node.{countUp}
 use Rattle.boot_ram.specs.Verdict.{Judged, maxFree}
-use Rattle.boot_ram.specs.Laws.Answer.{counted-refused, counted-count}
-use Rattle.boot_ram.specs.Laws.Bounds.{import-bounds}
-use Rattle.boot_ram.specs.Laws.Stored.{Stored, stored-found}
+use Rattle.refusal.specs.Laws.Answer.{counted-refused, counted-count}
+use Rattle.boot_take.specs.Laws.Bounds.{import-bounds}
+use Rattle.boot_take.specs.Laws.Stored.{Stored, stored-found}
 use Rattle.vtl2_ram.specs.Laws.Boot.{after-refused, after-taken}
 use Rattle.vtl2_ram.proofs.boot.take_free.Statement.{statement}
 use Rattle.vtl2_ram.proofs.boot.take_free.Tie as tie
@@ -30,7 +30,7 @@ abbrev found : tie.Start → List TaggedRange
 found s = taggedOf (s .args .found-starts .now) (s .args .found-ends .now) (s .args .found-nodes .now)
 
 abbrev pieces : tie.Start → List TaggedRange
-pieces s = firstEntries (s .args .file-pieces) (s .args .ram-starts .now) (s .args .ram-ends .now) (s .args .ram-nodes .now)
+pieces s = firstTagged (s .args .file-pieces) (s .args .ram-starts .now) (s .args .ram-ends .now) (s .args .ram-nodes .now)
 
 abbrev walked : tie.Start → Judged
 walked s = importWalk (s .args .isolation) (s .args .file) (imports s) (found s)
@@ -47,7 +47,7 @@ passed c =
 free-found : (c : tie.After-free)
     → let w = c .before .before in
     let l = w .walk-imports .last .1 .1 .1 .1 .1 .1 .1 in
-    firstEntries (c .free .given .0 .0) (l .0) (l .1 .0) (l .1 .1 .0) ≡ walked (entry w) .free
+    firstTagged (c .free .given .0 .0) (l .0) (l .1 .0) (l .1 .1 .0) ≡ walked (entry w) .free
 free-found c =
     let w = c .before .before in
     let s = entry w in

@@ -3,8 +3,7 @@ use mathlib.Core.Path.{_≡_}
 use native.Mathlib.Omega.{arith}
 use borrow.Author.Needs.{needs}
 use lib.ListN.{length, take, length-take}
-use Rattle.memory_range.specs.List.{rangesIn, rangesOf}
-use Rattle.boot_ram.specs.Take.{firstEntries}
+use Rattle.memory_range.specs.List.{rangesIn, rangesOf, firstTagged}
 use Rattle.vtl2_ram.specs.Laws.Ram.{ranges-first}
 use Rattle.vtl2_ram.proofs.ram.chosen_ram.Statement.{statement}
 use Rattle.vtl2_ram.proofs.ram.chosen_ram.Tie as tie
@@ -21,7 +20,7 @@ slice-aggregate-total-bytes-2 c =
     let size : length (a .t2) ≡ 64 = search needs in
     omega (arith, length-take (a .count) (a .t2))
 
-ranges : (c : tie.Start) → rangesIn (firstEntries (c .args .count) (c .args .t1) (c .args .t2) (c .args .nodes))
+ranges : (c : tie.Start) → rangesIn (firstTagged (c .args .count) (c .args .t1) (c .args .t2) (c .args .nodes))
     ≡ rangesOf (take (c .args .count) (c .args .t1)) (take (c .args .count) (c .args .t2))
 ranges c =
     let size : length (c .args .nodes) ≡ 64 = search needs in

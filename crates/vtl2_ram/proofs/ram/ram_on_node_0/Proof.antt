@@ -3,7 +3,7 @@ use mathlib.Core.Path.{_≡_}
 use native.Mathlib.Omega.{arith}
 use borrow.Author.Needs.{needs}
 use Rattle.memory_range.specs.List.{tagged}
-use Rattle.boot_ram.specs.Take.{bytesOf}
+use Rattle.boot_ram.specs.Held.{bytesOf}
 use Rattle.vtl2_ram.proofs.ram.ram_on_node_0.Statement.{statement}
 use Rattle.vtl2_ram.proofs.ram.ram_on_node_0.Tie as tie
 

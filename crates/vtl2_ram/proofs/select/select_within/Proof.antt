@@ -4,9 +4,10 @@ use mathlib.Core.List.{List}
 use borrow.Author.Needs.{needs}
 use Rattle.memory_range.specs.declared.range.MemoryRange.{MemoryRange}
 use Rattle.memory_range.specs.List.{rangesOf}
-use Rattle.vtl2_ram.specs.declared.rows.Rows.the-variants.{Passed}
+use Rattle.refusal.specs.declared.answer.Rows.the-variants.{Passed}
 use Rattle.vtl2_ram.specs.Ram.{ramAs}
-use Rattle.vtl2_ram.specs.Rows.{rowsRefusal, rowsAs}
+use Rattle.vtl2_ram.specs.Rows.{rowsRefusal}
+use Rattle.refusal.specs.Answer.{rowsAs}
 use Rattle.vtl2_ram.specs.Laws.Map.{all-tags}
 use Rattle.vtl2_ram.proofs.select.Laws.{select-refused, select-host, select-boot, file-valid, map-ordered, boot-rows}
 use Rattle.vtl2_ram.proofs.select.select_within.Statement.{statement}

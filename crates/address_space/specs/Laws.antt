@@ -1,0 +1,5 @@
+-- Laws of the table that the functions' proofs rest on.
+pub mod Search
+pub mod Split
+pub mod List
+pub mod Request

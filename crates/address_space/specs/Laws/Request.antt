@@ -1,0 +1,108 @@
+-- Laws of requests: how the rows above the search, the search and the split come out.
+use Prim.Native.Nat.{ℕ, _+_, _-_, _^_, _≤_, _<_}
+use mathlib.Core.Path.{_≡_, refl}
+use mathlib.Core.Bool.{true, false}
+use mathlib.Core.List.{List}
+use mathlib.Core.Option.{Option, none, some}
+use native.Mathlib.Decide.{decLt}
+use native.Mathlib.Omega.{arith}
+use borrow.Author.Tests.{eq-eqb, ne-eqb, lt-ltb, le-ltb}
+use lib.ListN.{length, take, drop, getD}
+use Rattle.refusal.specs.Number.{lengthZero, lengthTooLarge, alignmentInvalid, noFit}
+use Rattle.memory_range.specs.declared.round.RoundedUp.the-variants.{To, TooLarge}
+use Rattle.memory_range.specs.Round.{roundUp, roundedUp}
+use Rattle.memory_range.specs.Valid.{pageSize}
+use Rattle.memory_range.specs.Laws.Round.{rounded-within, rounded-beyond, page-divides}
+use Rattle.host_params.specs.declared.AllocationPolicy.{AllocationPolicy}
+use Rattle.host_params.specs.declared.AllocationType.{AllocationType}
+use Rattle.host_params.specs.declared.OptionU32.{OptionU32}
+use Rattle.host_params.specs.declared.OptionU64.{OptionU64}
+use Rattle.address_space.specs.declared.request.Length.the-variants as length-answer
+use Rattle.address_space.specs.declared.search.Place.the-variants.{At, Nowhere}
+use Rattle.address_space.specs.declared.table.AddressRange.{AddressRange}
+use Rattle.address_space.specs.Fit.{fitsIn}
+use Rattle.address_space.specs.Request.{Outcome, refused, alignmentGood, rowsRefusal, placed, placedFrom, allocated, unless, requested, lengthAs}
+use Rattle.address_space.specs.Search.{Search, nothing, found, searched, belowIn, placeFound}
+use Rattle.address_space.specs.Table.{noEntry}
+use Rattle.address_space.specs.Laws.Search.{found-at}
+
+-- a length rounds up to pages within 64 bits exactly where it is at most 2^64 less a page
+too-large : (len : ℕ) → roundedUp pageSize len ≡ TooLarge → 2 ^ 64 - pageSize < len
+too-large len h =
+    elim (decLt (2 ^ 64 - pageSize) len) [
+      | yes l ↦ l
+      | no l ↦ absurd (let within = rounded-within pageSize len (omega arith) page-divides (omega arith) in let z : _≡_ {A = ℕ} 0 1 = cc in omega arith)
+    ]
+
+within : (len k : ℕ) → roundedUp pageSize len ≡ To k → (len ≤ 2 ^ 64 - pageSize) × (roundUp pageSize len ≡ k)
+within len k h =
+    elim (decLt (2 ^ 64 - pageSize) len) [
+      | yes l ↦ absurd (let beyond = rounded-beyond pageSize len (omega arith) page-divides l in let z : _≡_ {A = ℕ} 0 1 = cc in omega arith)
+      | no l ↦ (omega arith, let e = rounded-within pageSize len (omega arith) page-divides (omega arith) in cc)
+    ]
+
+-- the rows by the tests of the code: row 22, 23, 24, or none
+module _ (len : ℕ) (alignment : OptionU64) where
+  pub row-zero : len ≡ 0 → rowsRefusal len alignment ≡ some lengthZero
+  row-zero z = rw (eq-eqb len 0 z)
+
+  module _ (more : len ≡ 0 → ⊥) where
+    pub row-large : roundedUp pageSize len ≡ TooLarge → rowsRefusal len alignment ≡ some lengthTooLarge
+    row-large h = rw (ne-eqb len 0 more, lt-ltb (2 ^ 64 - pageSize) len (too-large len h))
+
+    module _ (k : ℕ) (to : roundedUp pageSize len ≡ To k) where
+      pub row-alignment : alignmentGood alignment ≡ false → rowsRefusal len alignment ≡ some alignmentInvalid
+      row-alignment h = rw (ne-eqb len 0 more, le-ltb (2 ^ 64 - pageSize) len (within len k to .0), h)
+
+      pub row-none : alignmentGood alignment ≡ true → lengthAs (rowsRefusal len alignment) (roundUp pageSize len) ≡ length-answer.Rounded k
+      row-none h = rw (ne-eqb len 0 more, le-ltb (2 ^ 64 - pageSize) len (within len k to .0), h, within len k to .1)
+
+-- the rows' answer decides what comes after them
+unless-refused : (o : Option ℕ) (k n : ℕ) (x : Outcome) → lengthAs o k ≡ length-answer.Refused n → unless o x ≡ refused n
+unless-refused none k n x h = cc
+unless-refused (some m) k n x h = cc
+
+unless-rounded : (o : Option ℕ) (k n : ℕ) (f : ℕ → Outcome) → lengthAs o k ≡ length-answer.Rounded n → unless o (f k) ≡ f n
+unless-rounded none k n f h = cc
+unless-rounded (some m) k n f h = cc
+
+module _ (asked : OptionU32) (len : ℕ) (type : AllocationType) (policy : AllocationPolicy) (alignment : OptionU64) (es : List AddressRange) where
+  placed-nowhere : (s : Search AddressRange) → placeFound policy s ≡ Nowhere → placedFrom len type policy alignment s ≡ refused noFit
+  placed-nowhere nothing h = refl
+  placed-nowhere (found before x after) h = cc
+
+  -- a search that ends nowhere is row 25
+  pub allocated-nowhere : placeFound policy (searched policy (fitsIn asked len alignment) es) ≡ Nowhere
+      → allocated asked len type policy alignment es ≡ refused noFit
+  unfolding allocated
+  allocated-nowhere h = placed-nowhere (searched policy (fitsIn asked len alignment) es) h
+
+  -- the entry at an index of the table is split, with those below it and above it
+  abbrev placedAtIndex : ℕ → Outcome
+  placedAtIndex at = placed len type policy alignment (take at es) (getD es at noEntry) (drop (at + 1) es)
+
+  placed-at : (s : Search AddressRange) (at : ℕ) → searched policy (fitsIn asked len alignment) es ≡ s → placeFound policy s ≡ At at
+      → (at < length es) × (placedFrom len type policy alignment s ≡ placedAtIndex at)
+  placed-at nothing at e h = absurd (let z : _≡_ {A = ℕ} 0 1 = cc in omega arith)
+  placed-at (found before x after) at e h =
+      let w = found-at policy (fitsIn asked len alignment) es before x after noEntry e in
+      let i : length (belowIn policy before after) ≡ at = cc in
+      rw (← i) (w .0, rw (w .1 .0, w .1 .1 .0, w .1 .1 .1))
+
+  -- one that ends at an index splits the entry there
+  pub allocated-at : (at : ℕ) → placeFound policy (searched policy (fitsIn asked len alignment) es) ≡ At at
+      → (at < length es) × (allocated asked len type policy alignment es ≡ placedAtIndex at)
+  unfolding allocated
+  allocated-at at h = placed-at (searched policy (fitsIn asked len alignment) es) at refl h
+
+  pub requested-refused : (n : ℕ) → lengthAs (rowsRefusal len alignment) (roundUp pageSize len) ≡ length-answer.Refused n
+      → requested asked len type policy alignment es ≡ refused n
+  unfolding requested
+  requested-refused n h =
+      unless-refused (rowsRefusal len alignment) (roundUp pageSize len) n (allocated asked (roundUp pageSize len) type policy alignment es) h
+
+  pub requested-rounded : (k : ℕ) → lengthAs (rowsRefusal len alignment) (roundUp pageSize len) ≡ length-answer.Rounded k
+      → requested asked len type policy alignment es ≡ allocated asked k type policy alignment es
+  unfolding requested
+  requested-rounded k h =
+      unless-rounded (rowsRefusal len alignment) (roundUp pageSize len) k (λ n. allocated asked n type policy alignment es) h

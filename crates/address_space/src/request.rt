@@ -1,0 +1,205 @@
+// Requests for memory.
+ghost use mathlib.Core.Path.{_≡_};
+ghost use Prim.Native.Nat.{_+_, _<_};
+ghost use lib.ListN.{length, take, drop, getD};
+ghost use Rattle.memory_range.specs.Round.{roundUp};
+ghost use Rattle.memory_range.specs.Valid.{pageSize};
+ghost use Rattle.address_space.specs.Request.{alignmentGood, rowsRefusal, lengthAs, placed, allocated, requested, refusedWith, allocationAs};
+ghost use Rattle.address_space.specs.Table.{entriesOf, noEntry};
+ghost use Rattle.host_params.specs.declared.OptionU64.the-variants as optionU64;
+use crate::fit::aligned_to;
+use crate::search::Place;
+use crate::search::find_index;
+use crate::split::added_by;
+use crate::split::allotted_part;
+use crate::split::split_entry;
+use crate::table::AddressSpaceManager;
+use crate::table::MAX_ADDRESS_RANGES;
+use crate::usage::is_pool;
+use crate::usage::usage_for;
+use host_params::AllocationPolicy;
+use host_params::AllocationType;
+use host_params::OptionU32;
+use host_params::OptionU64;
+use memory_range::MemoryRange;
+use memory_range::PAGE_SIZE;
+use memory_range::RoundedUp;
+use memory_range::is_power_of_two;
+use memory_range::round_up;
+use refusal::ALIGNMENT_INVALID;
+use refusal::LENGTH_TOO_LARGE;
+use refusal::LENGTH_ZERO;
+use refusal::NO_FIT;
+use refusal::TABLE_FULL;
+
+// What is handed out.
+pub struct AllocatedRange {
+    pub range: MemoryRange,
+    pub vnode: u32,
+}
+
+pub enum Allocated {
+    Range(AllocatedRange),
+    Refused(u8),
+}
+
+// The answer, and the table afterwards.
+pub struct Allocation {
+    pub answer: Allocated,
+    pub manager: AddressSpaceManager,
+}
+
+// The length rounded up to pages, or the refusal of a row above the search.
+pub(crate) enum Length {
+    Rounded(u64),
+    Refused(u8),
+}
+
+fn is_good(alignment: OptionU64) -> bool
+    ensures { λ r. ⌜ r ≡ alignmentGood alignment ⌝ }
+{
+    match alignment {
+        OptionU64::Some(alignment) => is_power_of_two(alignment),
+        OptionU64::None => true,
+    }
+}
+
+// Rows 22 to 24.
+fn check_rows(len: u64, alignment: OptionU64) -> Length
+    ensures { λ r. ⌜ r ≡ lengthAs (rowsRefusal len alignment) (roundUp pageSize len) ⌝ }
+{
+    if len == 0 {
+        return Length::Refused(LENGTH_ZERO);
+    }
+    match round_up(len, PAGE_SIZE) {
+        RoundedUp::TooLarge => Length::Refused(LENGTH_TOO_LARGE),
+        RoundedUp::To(rounded) => {
+            if is_good(alignment) {
+                return Length::Rounded(rounded);
+            }
+            Length::Refused(ALIGNMENT_INVALID)
+        }
+    }
+}
+
+fn refused(manager: AddressSpaceManager, number: u8) -> Allocation
+    ensures { λ r. ⌜ r ≡ refusedWith manager number ⌝ }
+{
+    Allocation {
+        answer: Allocated::Refused(number),
+        manager,
+    }
+}
+
+// The entry at an index is split, unless the table has no room for its parts.
+fn allocate_range(
+    manager: AddressSpaceManager,
+    at: usize,
+    len: u64,
+    allocation_type: AllocationType,
+    allocation_policy: AllocationPolicy,
+    alignment: OptionU64,
+) -> Allocation
+    requires { ⌜ at < length (entriesOf manager) ⌝ }
+    ensures { λ r. ⌜
+        r ≡ allocationAs manager «allocation_type»
+        (placed len «allocation_type» «allocation_policy» alignment
+        (take at (entriesOf manager)) (getD (entriesOf manager) at noEntry) (drop (at + 1) (entriesOf manager)))
+        ⌝ }
+{
+    let entry = manager.address_space[at];
+    let used = allotted_part(aligned_to(alignment, entry.range), len, allocation_policy);
+    if MAX_ADDRESS_RANGES < manager.len() + added_by(entry.range, used) {
+        return refused(manager, TABLE_FULL);
+    }
+    let mut manager = split_entry(manager, at, used, usage_for(allocation_type));
+    manager.vtl2_pool |= is_pool(allocation_type);
+    Allocation {
+        answer: Allocated::Range(AllocatedRange {
+            range: used,
+            vnode: entry.vnode,
+        }),
+        manager,
+    }
+}
+
+impl AddressSpaceManager {
+    // The search and the split, for a length in whole pages and an alignment that is good. They stand
+    // apart from the rows above them, since a private pool's pieces are placed by them alone.
+    pub fn allocate_inner(
+        self,
+        required_vnode: OptionU32,
+        len: u64,
+        allocation_type: AllocationType,
+        allocation_policy: AllocationPolicy,
+        alignment: OptionU64,
+    ) -> Allocation
+        ensures { λ r. ⌜
+            r ≡ allocationAs self «allocation_type»
+            (allocated «required_vnode» len «allocation_type» «allocation_policy» alignment (entriesOf self))
+            ⌝ }
+    {
+        match find_index(self, required_vnode, len, allocation_policy, alignment) {
+            Place::Nowhere => refused(self, NO_FIT),
+            Place::At(at) => allocate_range(
+                self,
+                at,
+                len,
+                allocation_type,
+                allocation_policy,
+                alignment,
+            ),
+        }
+    }
+
+    // Hands out a range of at least len bytes, of the node if one is given.
+    pub fn allocate(
+        self,
+        required_vnode: OptionU32,
+        len: u64,
+        allocation_type: AllocationType,
+        allocation_policy: AllocationPolicy,
+    ) -> Allocation
+        ensures { λ r. ⌜
+            r ≡ allocationAs self «allocation_type»
+            (requested «required_vnode» len «allocation_type» «allocation_policy» optionU64.None (entriesOf self))
+            ⌝ }
+    {
+        match check_rows(len, OptionU64::None) {
+            Length::Refused(number) => refused(self, number),
+            Length::Rounded(len) => self.allocate_inner(
+                required_vnode,
+                len,
+                allocation_type,
+                allocation_policy,
+                OptionU64::None,
+            ),
+        }
+    }
+
+    // The same, with the start of a low range, or the end of a high one, a multiple of the alignment.
+    pub fn allocate_aligned(
+        self,
+        required_vnode: OptionU32,
+        len: u64,
+        allocation_type: AllocationType,
+        allocation_policy: AllocationPolicy,
+        alignment: u64,
+    ) -> Allocation
+        ensures { λ r. ⌜
+            r ≡ allocationAs self «allocation_type»
+            (requested «required_vnode» len «allocation_type» «allocation_policy» (optionU64.Some alignment) (entriesOf self))
+            ⌝ }
+    {
+        match check_rows(len, OptionU64::Some(alignment)) {
+            Length::Refused(number) => refused(self, number),
+            Length::Rounded(len) => self.allocate_inner(
+                required_vnode,
+                len,
+                allocation_type,
+                allocation_policy,
+                OptionU64::Some(alignment),
+            ),
+        }
+    }
+}

@@ -1,0 +1,3 @@
+pub mod Node
+pub mod Share
+pub mod Laws

@@ -1,0 +1,6 @@
+pub mod Usage
+pub mod Builder
+pub mod Rows
+pub mod Used
+pub mod Build
+pub mod Laws
