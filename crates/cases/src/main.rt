@@ -9,6 +9,7 @@ mod entries;
 mod lines;
 mod listings;
 mod lists;
+mod pools;
 mod ranges;
 mod records;
 mod requests;
@@ -36,6 +37,7 @@ enum Layer {
     DmaHint,
     Vtl2Ram,
     Memory,
+    PrivatePool,
 }
 
 // Whether the line's answer is the one that it stores.
@@ -68,6 +70,10 @@ fn is_same(line: &[u8], layer: Layer) -> bool {
         Layer::Memory => {
             let c = text::read_case(line);
             case::is_answer(c, tables::answer(op, c))
+        }
+        Layer::PrivatePool => {
+            let c = text::read_case(line);
+            case::is_answer(c, pools::answer(op, c))
         }
     }
 }
@@ -160,4 +166,5 @@ fn main() {
     replay_file(b"memory_build.txt", Layer::Memory);
     replay_file(b"memory_request.txt", Layer::Memory);
     replay_file(b"memory_lists.txt", Layer::Memory);
+    replay_file(b"private_pool.txt", Layer::PrivatePool);
 }

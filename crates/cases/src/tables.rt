@@ -71,7 +71,7 @@ fn range_of(entry: Entry) -> AddressRange {
     }
 }
 
-fn is_same(found: AddressRange, entry: Entry) -> bool {
+pub(crate) fn is_same(found: AddressRange, entry: Entry) -> bool {
     let usage = found.usage;
     if found.vnode == entry.vnode() {
         return entry.is(found.range.start, found.range.end, usage_number(usage));

@@ -1,10 +1,12 @@
--- The worked examples (docs/SPEC.md, each in the section of its rule), P1 to P9, P11 and P12, in one table.
-use Prim.Native.Nat.{ℕ, _*_}
+-- The worked examples (docs/SPEC.md, each in the section of its rule), P1 to P12, in one table.
+use Prim.Native.Nat.{ℕ, _*_, _/_}
 use mathlib.Core.Path.{_≡_}
+use mathlib.Core.Bool.{true}
 use mathlib.Core.List.{List, [], _∷_}
 use Rattle.host_params.specs.declared.Vtl2GpaPoolLookupTable.{Vtl2GpaPoolLookupTable}
 use Rattle.host_params.specs.declared.Vtl2GpaPoolLookupTable.the-variants.{Release, Debug}
-use Rattle.memory_range.specs.Range.{range}
+use Rattle.memory_range.specs.Range.{range, lengthOf}
+use Rattle.memory_range.specs.Valid.{pageSize}
 use Rattle.dma_hint.specs.Hint.{dmaHint}
 use Rattle.boot_nodes.specs.Share.{shareOf}
 use Rattle.boot_take.specs.Take.{takenStart}
@@ -13,8 +15,12 @@ use Rattle.host_params.specs.declared.AllocationPolicy.the-variants.{LowMemory,
 use Rattle.host_params.specs.declared.AllocationType.the-variants.{SidecarNode}
 use Rattle.host_params.specs.declared.OptionU32.the-variants as node
 use Rattle.host_params.specs.declared.OptionU64.the-variants as number
+use Rattle.address_space.specs.declared.request.AllocatedRange.{AllocatedRange}
+use Rattle.address_space.specs.declared.table.AddressRange.{AddressRange}
 use Rattle.address_space.specs.Request.{Outcome, refused, handed, requested}
 use Rattle.address_space.specs.Split.{freeEntry}
+use Rattle.private_pool.specs.Pool.{Placement, poolPlaced}
+use Rattle.private_pool.specs.Pool as placement
 
 pub data Example : Type 0 where
   -- the hint of a table for so many processors and so many MiB of memory, in pages
@@ -23,6 +29,10 @@ pub data Example : Type 0 where
   share : ℕ → ℕ → ℕ → Example
   -- where the piece starts that is taken for a need from a free entry with this start and end
   taken : ℕ → ℕ → ℕ → ℕ → Example
+  -- the pages of each range that a pool of so many pages is given where it is split over three nodes, each with 16 free pages
+  pieces : ℕ → List ℕ → Example
+  -- the refusal of such a pool
+  unsplit : ℕ → ℕ → Example
   -- where the range starts and ends that a request of one byte, by its policy and alignment, is given from one free entry with
   -- this start and end
   given : ℕ → ℕ → AllocationPolicy → ℕ → ℕ → ℕ → Example
@@ -46,11 +56,33 @@ abbrev pub refusalOf : Outcome → ℕ
 refusalOf (refused n) = n
 refusalOf (handed x es) = 0
 
+-- a pool of so many pages, split over a table with a free entry of 16 pages for each of three nodes
+abbrev pub threeNodes : List AddressRange
+threeNodes = freeEntry 0 (range 0 65536) ∷ freeEntry 1 (range 65536 131072) ∷ freeEntry 2 (range 131072 196608) ∷ []
+
+abbrev pub overThree : ℕ → Placement
+overThree pages = poolPlaced pages true threeNodes
+
+-- what a placement tells: the pages of each range, or the refusal; none or 0 where there is none
+abbrev pub pagesOfEach : List AllocatedRange → List ℕ
+pagesOfEach [] = []
+pagesOfEach (x ∷ xs) = lengthOf (x .range) / pageSize ∷ pagesOfEach xs
+
+abbrev pub pagesPlaced : Placement → List ℕ
+pagesPlaced (placement.refused n) = []
+pagesPlaced (placement.placed xs es) = pagesOfEach xs
+
+abbrev pub placementRefusal : Placement → ℕ
+placementRefusal (placement.refused n) = n
+placementRefusal (placement.placed xs es) = 0
+
 -- that the definitions give an example's answer
 abbrev pub Holds : Example → Type 0
 Holds (hint table processors mib pages) = dmaHint table processors (mib * 1048576) ≡ pages
 Holds (share size nodes bytes) = shareOf size nodes ≡ bytes
 Holds (taken need start end at) = takenStart need (range start end) ≡ at
+Holds (pieces pages each) = pagesPlaced (overThree pages) ≡ each
+Holds (unsplit pages number) = placementRefusal (overThree pages) ≡ number
 Holds (given start end policy alignment from to) = (startOf (oneByte start end policy alignment) ≡ from) × (endOf (oneByte start end policy alignment) ≡ to)
 Holds (turned start end policy alignment number) = refusalOf (oneByte start end policy alignment) ≡ number
 
@@ -78,6 +110,9 @@ examples =
     -- 410000 the piece starts at 408000.
     taken 32768 4194304 4255744 4194304 ∷
     taken 32768 4194304 4259840 4227072 ∷
+    -- P10: ten pages over three nodes: the last one gives the rest. Two pages are fewer than the nodes.
+    pieces 10 (3 ∷ 3 ∷ 4 ∷ []) ∷
+    unsplit 2 28 ∷
     -- P11: from 205000 to 20e000, alignment 4000: high is 20b000 to 20c000, whose end is aligned and whose start is not; low is
     -- 208000 to 209000.
     given 2117632 2154496 HighMemory 16384 2142208 2146304 ∷

@@ -104,7 +104,7 @@ reserved-has-bytes b configs v w =
     let given = both-have payload config (given-has PersistedStatePayload (stateOf b .right)) (all-have Vtl2Config configs (valid-have configs w)) in
     (omega arith, both-have (payload ++ config) (optionsOf b) given (options-have b v))
 
-or-false-iff : (s t : Bool) → (s || t ≡ false) ↔ ((s ≡ false) × (t ≡ false))
+pub or-false-iff : (s t : Bool) → (s || t ≡ false) ↔ ((s ≡ false) × (t ≡ false))
 or-false-iff true t = (λ h. absurd (true≢false h), λ h. h .0)
 or-false-iff false t = (λ h. (refl, h), λ h. h .1)
 

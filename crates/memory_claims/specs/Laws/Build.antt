@@ -9,6 +9,7 @@ use Rattle.refusal.specs.Number.{usedOutsideRam}
 use Rattle.refusal.specs.Rows.{refusedIf}
 use Rattle.memory_range.specs.declared.range.MemoryRange.{MemoryRange}
 use Rattle.memory_range.specs.declared.range.TaggedRange.{TaggedRange}
+use Rattle.memory_range.specs.Bytes.{Ordered}
 use Rattle.memory_range.specs.List.{rangesIn}
 use Rattle.memory_range.specs.Laws.Valid.{valid-ordered}
 use Rattle.range_lists.specs.Laws.Entries.{length-ranges-in}
@@ -50,12 +51,23 @@ module _ (b : AddressSpaceManagerBuilder) (entries : ℕ) (ram : List TaggedRang
             table-says ram used or ou a ∙ rw e (ap (λ (u : AddressUsage). some (note n u)) (used-says b configs pools (ok .0) (ok .2) (ok .3) passed a));
       }
 
-pub build-claimed : (b : AddressSpaceManagerBuilder) (entries : ℕ) (ram : List TaggedRange) (configs pools : List MemoryRange) (es : List AddressRange)
-    → build b entries ram configs pools ≡ built es → Built b ram configs pools es
-unfolding build filled
-build-claimed b entries ram configs pools es e =
-    let rows = unless-built (rowsRefusal b entries (rangesIn ram) configs pools) _ e in
-    let passed = unless-built (usedRefusal b configs pools) _ (rows .1) in
-    let same = unless-built (refusedIf (anyOutside (rangesIn ram) (rangesIn (usedOf b configs pools))) usedOutsideRam) _ (passed .1) .1 in
-    let es-is : tableOf ram (usedOf b configs pools) ≡ es = cc in
-    rw es-is at (table-built b entries ram configs pools (rows .0) (passed .0))
+  -- a build that gives a table: no row refused, and the table is that of the RAM and of what is used of it
+  pub build-passed : (es : List AddressRange) → build b entries ram configs pools ≡ built es
+      → (rowsRefusal b entries (rangesIn ram) configs pools ≡ none) × (usedRefusal b configs pools ≡ none) × (tableOf ram (usedOf b configs pools) ≡ es)
+  unfolding build filled
+  build-passed es e =
+      let rows = unless-built (rowsRefusal b entries (rangesIn ram) configs pools) _ e in
+      let passed = unless-built (usedRefusal b configs pools) _ (rows .1) in
+      let same = unless-built (refusedIf (anyOutside (rangesIn ram) (rangesIn (usedOf b configs pools))) usedOutsideRam) _ (passed .1) .1 in
+      (rows .0, passed .0, cc)
+
+  -- its RAM is in order
+  pub build-ordered : (es : List AddressRange) → build b entries ram configs pools ≡ built es → Ordered 0 (rangesIn ram)
+  build-ordered es e =
+      let ok = rows-passed b entries (rangesIn ram) configs pools (build-passed es e .0) in
+      valid-ordered 0 (rangesIn ram) (ok .1) (ok .4)
+
+  pub build-claimed : (es : List AddressRange) → build b entries ram configs pools ≡ built es → Built b ram configs pools es
+  build-claimed es e =
+      let passed = build-passed es e in
+      rw (passed .2) at (table-built (passed .0) (passed .1))

@@ -37,7 +37,7 @@ none-below b (e ∷ es) a o h = rw (not-below (e .range) a (omega arith)) (none-
 
 -- the entries below one of a table in order say nothing of a byte from its start on
 module _ (e : AddressRange) (higher : List AddressRange) where
-  starts-behind : (b : ℕ) (es : List AddressRange) → Ordered b (rangesAt (es ++ e ∷ higher)) → b ≤ e .range .start
+  pub starts-behind : (b : ℕ) (es : List AddressRange) → Ordered b (rangesAt (es ++ e ∷ higher)) → b ≤ e .range .start
   starts-behind b [] o = o .0
   starts-behind b (x ∷ es) o = omega (arith, o .0, o .1 .0, starts-behind (x .range .end) es (o .1 .1))
 

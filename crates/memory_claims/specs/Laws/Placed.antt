@@ -45,7 +45,7 @@ free-usage (Reserved t) h = absurd (let z : _≡_ {A = ℕ} 0 1 = cc in omega ar
 
 -- what is handed out, and what is not refused for want of a fit, where an entry was found
 module _ (x : AllocatedRange) (xs : List AddressRange) where
-  placed-handed : (y : AllocatedRange) (ys : List AddressRange) → placedAs x xs ≡ handed y ys → (x ≡ y) × (xs ≡ ys) × (length xs ≤ maxAddressRanges)
+  pub placed-handed : (y : AllocatedRange) (ys : List AddressRange) → placedAs x xs ≡ handed y ys → (x ≡ y) × (xs ≡ ys) × (length xs ≤ maxAddressRanges)
   placed-handed y ys h = go (ltb maxAddressRanges (length xs)) refl h
     where
       go : (t : Bool) → ltb maxAddressRanges (length xs) ≡ t → cond t (refused tableFull) (handed x xs) ≡ handed y ys
@@ -72,7 +72,7 @@ module _ (len : ℕ) (type : AllocationType) (policy : AllocationPolicy) (alignm
 
 module _ (asked : OptionU32) (len : ℕ) (type : AllocationType) (policy : AllocationPolicy) (alignment : OptionU64) where
   -- an entry that fits is free, on the asked node, and its aligned part is long enough
-  fits-parts : (e : AddressRange) → fitsIn asked len alignment e ≡ true
+  pub fits-parts : (e : AddressRange) → fitsIn asked len alignment e ≡ true
       → (e .usage ≡ Free) × (onAskedNode asked (e .vnode) ≡ true) × (len ≤ lengthOf (alignedTo alignment (e .range)))
   fits-parts e h =
       let long = leb len (lengthOf (e .range)) in

@@ -72,7 +72,7 @@ module _ (asked : OptionU32) (len : ℕ) (type : AllocationType) (policy : Alloc
       → requested asked len type policy alignment es ≡ allocated asked (roundUp pageSize len) type policy alignment es
   passed-rows passed = requested-rounded asked len type policy alignment es (roundUp pageSize len) (rw passed)
 
-  rows-passed : rowsRefusal len alignment ≡ none → (0 < len) × (alignmentGood alignment ≡ true)
+  pub rows-passed : rowsRefusal len alignment ≡ none → (0 < len) × (alignmentGood alignment ≡ true)
   rows-passed passed =
       let last = refusedIf (not (alignmentGood alignment)) alignmentInvalid ∷ [] in
       let some-length = first-kept (eqb len 0) lengthZero (refusedIf (ltb (2 ^ 64 - pageSize) len) lengthTooLarge ∷ last) passed in

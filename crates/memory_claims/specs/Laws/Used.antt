@@ -1,7 +1,7 @@
 -- What is used, the pieces and the pool ranges: it says of each byte what the ranges given to the build say, and it is at most 84 ranges.
 use Prim.Native.Nat.{ℕ, _+_, _≤_, _<_}
 use mathlib.Core.Path.{_≡_, refl, ap, sym, _∙_}
-use mathlib.Core.Bool.{Bool, true, false, cond, _||_, true≢false}
+use mathlib.Core.Bool.{Bool, true, false, cond}
 use mathlib.Core.List.{List, [], _∷_, _++_}
 use mathlib.Core.Option.{Option, none, some}
 use native.Mathlib.Omega.{arith}
@@ -23,14 +23,10 @@ use Rattle.memory.specs.declared.builder.AddressSpaceManagerBuilder.{AddressSpa
 use Rattle.memory.specs.Builder.{singlesValid, allAs, reservedOf}
 use Rattle.memory.specs.Usage.{usageOf}
 use Rattle.memory.specs.Used.{maxPools, maxUsed, anyOverlap, anyOutside, piecesUsed, usedOf, poolsBad, usedRefusal}
-use Rattle.memory.specs.Laws.Overlap.{singles-each, reserved-ordered, outside-bytes, used-ordered, used-length, used-refused-none}
+use Rattle.memory.specs.Laws.Overlap.{or-false-iff, singles-each, reserved-ordered, outside-bytes, used-ordered, used-length, used-refused-none}
 use Rattle.memory_claims.specs.Claim.{tagAt, saidBy, usageSaid}
 use Rattle.memory_claims.specs.Laws.Said.{ranges-as, orElse, tag-append, tag-holders, tag-sort}
 use Rattle.memory_claims.specs.Laws.Walked.{pieceTag, pieces-tag}
-
-or-right : (s t : Bool) → s || t ≡ false → t ≡ false
-or-right true t e = absurd (true≢false e)
-or-right false t e = e
 
 -- reserved ranges lie in the used range, pool ranges outside: what is said of a byte by its used piece, or else by its pool range
 said-same : (held : Bool) (r p : Option ℕ) → (0 < counted r → 0 < cond held 1 0 + 0) → cond held 1 0 + counted p ≤ 1
@@ -94,6 +90,6 @@ module _ (b : AddressSpaceManagerBuilder) (configs pools : List MemoryRange) (si
 
   pub used-count : length (usedOf b configs pools) ≤ maxUsed
   used-count =
-      let few = or-right (ltb maxPools (length pools)) _ (rules .2) in
-      let fewer = or-right (anyOverlap (b .«bootshim_used» ∷ pools)) (ltb maxUsed (length (piecesUsed b configs) + length pools)) few in
+      let few = or-false-iff (ltb maxPools (length pools)) _ .0 (rules .2) .1 in
+      let fewer = or-false-iff (anyOverlap (b .«bootshim_used» ∷ pools)) (ltb maxUsed (length (piecesUsed b configs) + length pools)) .0 few .1 in
       omega (arith, used-length b configs pools, ltb-false maxUsed (length (piecesUsed b configs) + length pools) fewer)

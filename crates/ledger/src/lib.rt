@@ -1,0 +1,1 @@
+// Definitions and theorems only: the claim about every list of calls from every accepted build.

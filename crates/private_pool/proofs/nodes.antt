@@ -1,0 +1,2 @@
+-- Laws for the proof of the collection of nodes.
+pub mod Laws

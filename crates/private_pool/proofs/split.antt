@@ -1,0 +1,2 @@
+-- Laws for the proof of the split.
+pub mod Laws

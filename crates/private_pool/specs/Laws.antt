@@ -1,0 +1,4 @@
+-- Laws of the placement.
+pub mod Piece
+pub mod Handed
+pub mod Pool

@@ -1,0 +1,3 @@
+pub mod Piece
+pub mod Pool
+pub mod Laws
