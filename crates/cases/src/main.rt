@@ -1,7 +1,7 @@
 // Replays stored answers. A line of a data file is the name of an operation and lists of numbers, the
 // lists parted by `/`, the last one by `=`: that one is what the operation answers to the others. In the
-// file of texts the name is followed by a text. A line with an answer that differs is printed; the last
-// line of each file counts.
+// file of texts the name is followed by a text, and in those of plans the answer is one too. A line with an
+// answer that differs is printed; the last line of each file counts.
 mod builds;
 mod case;
 mod decode;
@@ -9,6 +9,7 @@ mod entries;
 mod lines;
 mod listings;
 mod lists;
+mod plans;
 mod pools;
 mod ranges;
 mod records;
@@ -38,6 +39,7 @@ enum Layer {
     Vtl2Ram,
     Memory,
     PrivatePool,
+    Plan,
 }
 
 // Whether the line's answer is the one that it stores.
@@ -75,6 +77,7 @@ fn is_same(line: &[u8], layer: Layer) -> bool {
             let c = text::read_case(line);
             case::is_answer(c, pools::answer(op, c))
         }
+        Layer::Plan => plans::is_stored(op, plan_fields::later_parts(line, op.len())),
     }
 }
 
@@ -167,4 +170,10 @@ fn main() {
     replay_file(b"memory_request.txt", Layer::Memory);
     replay_file(b"memory_lists.txt", Layer::Memory);
     replay_file(b"private_pool.txt", Layer::PrivatePool);
+    replay_file(b"plans.txt", Layer::Plan);
+    replay_file(b"plans_table.txt", Layer::Plan);
+    replay_file(b"plans_lists.txt", Layer::Plan);
+    replay_file(b"plans_map_1024.txt", Layer::Plan);
+    replay_file(b"plans_map_1025.txt", Layer::Plan);
+    replay_file(b"plans_random.txt", Layer::Plan);
 }

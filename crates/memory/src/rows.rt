@@ -40,7 +40,7 @@ fn option_count(range: OptionRange) -> usize
 
 impl AddressSpaceManagerBuilder {
     // Row 4 of the single ranges.
-    fn is_valid(self) -> bool
+    pub fn is_valid(self) -> bool
         ensures { λ r. ⌜ r ≡ singlesValid self ⌝ }
     {
         let reserved_range = self.reserved_range;

@@ -15,6 +15,7 @@ mod valid;
 pub use list::range_count;
 pub use list::tagged_count;
 pub use power::is_power_of_two;
+pub use put::put_address;
 pub use put::put_range;
 pub use range::MemoryRange;
 pub use range::SplitRange;

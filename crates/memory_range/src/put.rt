@@ -5,7 +5,7 @@ use super::range::MemoryRange;
 
 // Puts a number at an index, where the list has one. Tags have another width, so they have a function
 // of their own.
-fn put_address(list: &mut [u64], at: usize, address: u64)
+pub fn put_address(list: &mut [u64], at: usize, address: u64)
     ensures { λ _. ⌜ now (list .exit) ≡ set (now (list .entry)) at address ⌝ }
 {
     if list.len() <= at {

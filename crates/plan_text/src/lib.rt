@@ -2,6 +2,7 @@
 mod order;
 mod text;
 
+pub use order::record_place;
 pub use text::RecordStep;
 pub use text::TEXT_SIZE;
 pub use text::TextCheck;

@@ -11,7 +11,7 @@ pub(crate) const BROKEN: u8 = 15;
 pub(crate) const COMPLETE: u8 = 13;
 
 // The place of the record's word among the fourteen words.
-pub(crate) fn record_place(record: Record) -> u8
+pub fn record_place(record: Record) -> u8
     ensures { λ r. ⌜ r ≡ placeOf «record» ⌝ }
 {
     match record {

@@ -1,0 +1,2 @@
+-- The proofs of `get`.
+pub mod Laws

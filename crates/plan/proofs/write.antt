@@ -1,0 +1,2 @@
+-- The proofs of `write`.
+pub mod Laws

@@ -1,0 +1,9 @@
+-- Laws of the plan.
+pub mod Write
+pub mod Get
+pub mod Pool
+pub mod Made
+pub mod Few
+pub mod Planner
+pub mod Selected
+pub mod Read

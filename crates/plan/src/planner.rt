@@ -1,0 +1,314 @@
+// The plan of a text. What is lent as output is written only once no refusal of the whole plan can
+// follow.
+ghost use mathlib.Core.Path.{_≡_};
+ghost use Prim.Native.Nat.{_≤_, min};
+ghost use lib.ListN.{length, take};
+ghost use Rattle.memory_range.specs.List.{rangesOf, firstTagged};
+ghost use Rattle.boot_ram.specs.Held.{bytesOf};
+ghost use Rattle.vtl2_ram.specs.Map.{mapOf};
+ghost use Rattle.vtl2_ram.specs.Ram.{ramAs};
+ghost use Rattle.vtl2_ram.specs.Select.{choice};
+ghost use Rattle.address_space.specs.Table.{entriesOf};
+ghost use Rattle.memory.specs.Build.{built};
+ghost use Rattle.plan_text.specs.declared.text.TextCheck.the-variants.{Accepted};
+ghost use Rattle.plan_text.specs.Text.{textCheck};
+ghost use Rattle.plan_input.specs.Record.{recordsAt};
+ghost use Rattle.plan_input.specs.Input.{getsFirst};
+ghost use Rattle.plan_input.specs.Selection.{selectionIn, SelectionHeld};
+ghost use Rattle.plan.specs.Line.{Room, Wrote};
+ghost use Rattle.private_pool.specs.Pool.{maxPoolRanges};
+ghost use Rattle.plan.specs.Planner.{planLines, afterBuild, planOf, plannedAs, outputAs, Answers, outputSize, choiceOf, Selected};
+use crate::get::answer_gets;
+use crate::pool::place_pool;
+use crate::write::write_map_lines;
+use crate::write::write_pool_lines;
+use crate::write::write_ram_lines;
+use address_space::AddressSpaceManager;
+use address_space::MAX_ADDRESS_RANGES;
+use host_params::IsolationType;
+use host_params::MAX_VTL2_RAM_RANGES;
+use memory::AddressSpaceManagerBuilder;
+use memory::Initialized;
+use plan_input::CONFIG_ROOM;
+use plan_input::IMPORT_ROOM;
+use plan_input::MAP_ROOM;
+use plan_input::POOL_ROOM;
+use plan_input::PoolRead;
+use plan_input::SelectionRead;
+use plan_input::read_build;
+use plan_input::read_pool;
+use plan_input::read_selection;
+use plan_output::LINE_SIZE;
+use plan_text::TEXT_SIZE;
+use plan_text::TextCheck;
+use plan_text::check_text;
+use private_pool::PoolPlaced;
+use private_pool::PrivatePool;
+use refusal::RANGE_INVALID;
+use refusal::RANGES_NOT_ASCENDING;
+use vtl2_ram::Selection;
+use vtl2_ram::Vtl2Ram;
+use vtl2_ram::select_vtl2_ram;
+
+// The bytes of the shortest request: `get`, five fields of a byte, and the byte behind each of the six.
+const SHORTEST_GET: usize = 3 + 5 + 6;
+
+// The most lines of a plan: of the RAM, of the pool, of requests, and of the table.
+const MOST_LINES: usize = MAX_VTL2_RAM_RANGES
+    + MAX_VTL2_RAM_RANGES
+    + TEXT_SIZE / SHORTEST_GET
+    + MAX_ADDRESS_RANGES;
+
+// So many bytes suffice for every plan.
+pub const OUTPUT_SIZE: usize = MOST_LINES * LINE_SIZE;
+
+pub enum Planned {
+    // So many bytes of the output.
+    Written(usize),
+    Refused(u8),
+}
+
+// The lines, in the order of the output. The requests are answered as they are read.
+fn write_plan(
+    text: &[u8],
+    gets: usize,
+    ram: Vtl2Ram,
+    ram_count: usize,
+    pool: PrivatePool,
+    pool_count: usize,
+    output: &mut [u8],
+) -> usize
+    requires { ⌜ («ram_count» ≤ 64) × («pool_count» ≤ maxPoolRanges) ⌝
+        ∗ ⌜ Room (length (planLines (firstTagged «ram_count» (ram .starts) (ram .ends) (ram .nodes)) (take «pool_count» (pool .ranges)) (getsFirst (recordsAt (now text) gets)) (entriesOf (pool .manager)))) 0 (now output) ⌝ }
+    ensures { λ r. ⌜ Wrote (planLines (firstTagged «ram_count» (ram .starts) (ram .ends) (ram .nodes)) (take «pool_count» (pool .ranges)) (getsFirst (recordsAt (now (text .entry)) gets)) (entriesOf (pool .manager))) 0 (now (output .entry)) (now (output .exit)) r ⌝ }
+{
+    let ranges = pool.ranges;
+    let table = pool.manager;
+    let pool_at = write_ram_lines(output, 0, &ram.starts, &ram.ends, &ram.nodes, ram_count);
+    let gets_at = write_pool_lines(output, pool_at, ranges, pool_count);
+    let answered = answer_gets(text, gets, table, output, gets_at);
+    let last = answered.manager;
+    write_map_lines(output, answered.next, last)
+}
+
+// The pool is sized by the RAM's bytes and placed in the table, and the plan is written.
+fn plan_table(
+    text: &[u8],
+    pool: PoolRead,
+    isolation: IsolationType,
+    ram: Vtl2Ram,
+    ram_count: usize,
+    ram_bytes: u64,
+    table: AddressSpaceManager,
+    output: &mut [u8],
+) -> Planned
+    requires { ⌜ outputSize ≤ length (now output) ⌝
+        ∗ ⌜ («ram_count» ≤ 64) × («ram_bytes» ≡ bytesOf (firstTagged «ram_count» (ram .starts) (ram .ends) (ram .nodes))) ⌝
+        ∗ ⌜ planOf (now text) ≡ afterBuild isolation (pool .pool) (firstTagged «ram_count» (ram .starts) (ram .ends) (ram .nodes)) (getsFirst (recordsAt (now text) (pool .next))) (built (entriesOf table)) ⌝ }
+    ensures { λ r. ⌜ Answers (planOf (now (text .entry))) (now (output .entry)) (now (output .exit)) r ⌝ }
+{
+    let record = pool.pool;
+    let placed = place_pool(isolation, record, ram_bytes, table);
+    let answer = placed.answer;
+    match answer {
+        PoolPlaced::Refused(number) => Planned::Refused(number),
+        PoolPlaced::Ranges(count) => Planned::Written(write_plan(
+            text,
+            pool.next,
+            ram,
+            ram_count,
+            placed,
+            count,
+            output,
+        )),
+    }
+}
+
+// The table is built in the RAM.
+fn plan_ram<'a>(
+    text: &'a [u8],
+    pool: PoolRead,
+    isolation: IsolationType,
+    builder: AddressSpaceManagerBuilder,
+    ram: Vtl2Ram,
+    config_starts: &'a [u64],
+    config_ends: &'a [u64],
+    pool_starts: &'a [u64],
+    pool_ends: &'a [u64],
+    output: &mut [u8],
+) -> Planned
+    requires { ⌜ outputSize ≤ length (now output) ⌝
+        ∗ ⌜ Selected (now text) isolation (pool .pool) builder (getsFirst (recordsAt (now text) (pool .next)))
+        (rangesOf (now «config_starts») (now «config_ends»)) (rangesOf (now «pool_starts») (now «pool_ends»)) ram ⌝ }
+    ensures { λ r. ⌜ Answers (planOf (now (text .entry))) (now (output .entry)) (now (output .exit)) r ⌝ }
+{
+    let selection = ram.selection;
+    match selection {
+        Selection::Refused(number) => Planned::Refused(number),
+        Selection::Chosen(count, bytes) => {
+            let starts = ram.starts;
+            let ends = ram.ends;
+            let nodes = ram.nodes;
+            let init = builder.init(
+                AddressSpaceManager::new(),
+                &starts[..count],
+                &ends[..count],
+                &nodes[..count],
+                config_starts,
+                config_ends,
+                pool_starts,
+                pool_ends,
+            );
+            let answer = init.answer;
+            let table = init.manager;
+            match answer {
+                Initialized::Refused(number) => Planned::Refused(number),
+                Initialized::Table => plan_table(
+                    text,
+                    pool,
+                    isolation,
+                    ram,
+                    count,
+                    bytes,
+                    table,
+                    output,
+                ),
+            }
+        }
+    }
+}
+
+fn at_most(count: usize, room: usize) -> usize
+    ensures { λ r. ⌜ r ≡ min count room ⌝ }
+{
+    if count <= room {
+        return count;
+    }
+    room
+}
+
+// What the build is given is read, and rows 4 and 5 are looked at over all ranges of the text. They come
+// before every refusal of the selection, whose answer is at hand.
+fn plan_selected(text: &[u8], read: SelectionRead, ram: Vtl2Ram, output: &mut [u8]) -> Planned
+    requires { ⌜ outputSize ≤ length (now output) ⌝
+        ∗ ⌜ textCheck (now text) ≡ Accepted ⌝
+        ∗ ⌜ SelectionHeld (now text) (selectionIn (recordsAt (now text) 0)) read ⌝
+        ∗ ⌜ ram ≡ ramAs (choiceOf (selectionIn (recordsAt (now text) 0))) ⌝ }
+    ensures { λ r. ⌜ Answers (planOf (now (text .entry))) (now (output .entry)) (now (output .exit)) r ⌝ }
+{
+    let mut config_starts = [0; CONFIG_ROOM];
+    let mut config_ends = [0; CONFIG_ROOM];
+    let mut pool_starts = [0; POOL_ROOM];
+    let mut pool_ends = [0; POOL_ROOM];
+    let build = read_build(
+        text,
+        read.next,
+        &mut config_starts,
+        &mut config_ends,
+        &mut pool_starts,
+        &mut pool_ends,
+    );
+    if !(read.valid & build.valid) {
+        return Planned::Refused(RANGE_INVALID);
+    }
+    if !read.ascending {
+        return Planned::Refused(RANGES_NOT_ASCENDING);
+    }
+    let configs = at_most(build.config_count, CONFIG_ROOM);
+    let pools = at_most(build.pool_count, POOL_ROOM);
+    let shape = read.shape;
+    let isolation = shape.isolation;
+    let builder = build.builder;
+    plan_ram(
+        text,
+        read_pool(text, build.next),
+        isolation,
+        builder,
+        ram,
+        &config_starts[..configs],
+        &config_ends[..configs],
+        &pool_starts[..pools],
+        &pool_ends[..pools],
+        output,
+    )
+}
+
+// RAM is selected from what was read.
+fn select_ram<'a>(
+    read: SelectionRead,
+    map_starts: &'a [u64],
+    map_ends: &'a [u64],
+    map_nodes: &'a [u32],
+    map_protectable: &'a [bool],
+    import_starts: &'a [u64],
+    import_ends: &'a [u64],
+) -> Vtl2Ram
+    ensures { λ r. ⌜
+        r ≡ ramAs (choice (read .shape .mode) (read .shape .isolation) (read .shape .«memory_size») (read .file)
+        (mapOf (now («map_starts» .entry)) (now («map_ends» .entry)) (now («map_nodes» .entry)) (now («map_protectable» .entry)))
+        (rangesOf (now («import_starts» .entry)) (now («import_ends» .entry))))
+        ⌝ }
+{
+    let shape = read.shape;
+    let mode = shape.mode;
+    let isolation = shape.isolation;
+    let memory_size = shape.memory_size;
+    select_vtl2_ram(
+        mode,
+        isolation,
+        memory_size,
+        read.file,
+        map_starts,
+        map_ends,
+        map_nodes,
+        map_protectable,
+        import_starts,
+        import_ends,
+    )
+}
+
+// What selection is given is read, and RAM is selected.
+fn plan_accepted(text: &[u8], output: &mut [u8]) -> Planned
+    requires { ⌜ outputSize ≤ length (now output) ⌝ ∗ ⌜ textCheck (now text) ≡ Accepted ⌝ }
+    ensures { λ r. ⌜ Answers (planOf (now (text .entry))) (now (output .entry)) (now (output .exit)) r ⌝ }
+{
+    let mut map_starts = [0; MAP_ROOM];
+    let mut map_ends = [0; MAP_ROOM];
+    let mut map_nodes = [0; MAP_ROOM];
+    let mut map_protectable = [false; MAP_ROOM];
+    let mut import_starts = [0; IMPORT_ROOM];
+    let mut import_ends = [0; IMPORT_ROOM];
+    let read = read_selection(
+        text,
+        &mut map_starts,
+        &mut map_ends,
+        &mut map_nodes,
+        &mut map_protectable,
+        &mut import_starts,
+        &mut import_ends,
+    );
+    let entries = at_most(read.map_count, MAP_ROOM);
+    let imports = at_most(read.import_count, IMPORT_ROOM);
+    let ram = select_ram(
+        read,
+        &map_starts[..entries],
+        &map_ends[..entries],
+        &map_nodes[..entries],
+        &map_protectable[..entries],
+        &import_starts[..imports],
+        &import_ends[..imports],
+    );
+    plan_selected(text, read, ram, output)
+}
+
+// Writes the plan of a text at the start of the output, or answers the number of its refusal and
+// leaves the output as found.
+pub fn plan(text: &[u8], output: &mut [u8; OUTPUT_SIZE]) -> Planned
+    ensures { λ r. ⌜ r ≡ plannedAs (planOf (now (text .entry))) ⌝ }
+    ensures { λ _. ⌜ now (output .exit) ≡ outputAs (planOf (now (text .entry))) (now (output .entry)) ⌝ }
+{
+    match check_text(text) {
+        TextCheck::Refused(number) => Planned::Refused(number),
+        TextCheck::Accepted => plan_accepted(text, output),
+    }
+}

@@ -1,0 +1,1 @@
+// Definitions and theorems only: every plan is a run of the calls that the claim is about.

@@ -1,0 +1,2 @@
+-- The proofs of `list`.
+pub mod Laws

@@ -1,0 +1,2 @@
+-- The proofs of `once`.
+pub mod Laws

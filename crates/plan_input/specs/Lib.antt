@@ -1,0 +1,11 @@
+pub mod Record
+pub mod Word
+pub mod Once
+pub mod Range
+pub mod Entry
+pub mod Rows
+pub mod Selection
+pub mod Build
+pub mod Input
+pub mod Room
+pub mod Laws

@@ -1,0 +1,96 @@
+// The two records that hold neither a range nor an entry of the map, and stand once.
+ghost use mathlib.Core.Path.{_≡_};
+ghost use Rattle.plan_text.specs.Plan.{heldBy, shapeHeld, poolHeld};
+ghost use Rattle.plan_input.specs.Record.{recordsAt, behindOne};
+ghost use Rattle.plan_input.specs.Once.{firstOr, noShape, noPool, shapeFirst, poolFirst};
+use host_params::IsolationType;
+use host_params::MemoryAllocationMode;
+use host_params::OptionU64;
+use host_params::Vtl2GpaPoolConfig;
+use plan_record::Pool;
+use plan_record::Record;
+use plan_record::Shape;
+use plan_text::RecordStep;
+use plan_text::next_record;
+
+pub(crate) struct ShapeRead {
+    pub shape: Shape,
+    pub next: usize,
+}
+
+pub struct PoolRead {
+    pub pool: Pool,
+    pub next: usize,
+}
+
+fn shape_in(record: Record) -> Shape
+    ensures { λ r. ⌜ r ≡ firstOr noShape (shapeHeld (heldBy «record»)) ⌝ }
+{
+    match record {
+        Record::Shape(shape) => shape,
+        _ => no_shape(),
+    }
+}
+
+fn no_shape() -> Shape
+    ensures { λ r. ⌜ r ≡ noShape ⌝ }
+{
+    Shape {
+        mode: MemoryAllocationMode::Host,
+        isolation: IsolationType::None,
+        memory_size: OptionU64::None,
+    }
+}
+
+pub(crate) fn read_shape(text: &[u8], at: usize) -> ShapeRead
+    ensures { λ r. ⌜ r .shape ≡ shapeFirst (recordsAt (now (text .entry)) at) ⌝
+        ∗ ⌜ recordsAt (now (text .entry)) (r .next) ≡ behindOne (recordsAt (now (text .entry)) at) ⌝ }
+{
+    match next_record(text, at) {
+        RecordStep::Record(record, next) => ShapeRead {
+            shape: shape_in(record),
+            next,
+        },
+        _ => ShapeRead {
+            shape: no_shape(),
+            next: at,
+        },
+    }
+}
+
+fn no_pool() -> Pool
+    ensures { λ r. ⌜ r ≡ noPool ⌝ }
+{
+    Pool {
+        config: Vtl2GpaPoolConfig::Off,
+        host_pages: OptionU64::None,
+        processors: 0,
+        split: false,
+    }
+}
+
+fn pool_in(record: Record) -> Pool
+    ensures { λ r. ⌜ r ≡ firstOr noPool (poolHeld (heldBy «record»)) ⌝ }
+{
+    match record {
+        Record::Pool(pool) => pool,
+        _ => no_pool(),
+    }
+}
+
+// The pool record at a place of the text.
+pub fn read_pool(text: &[u8], at: usize) -> PoolRead
+    ensures { λ r. ⌜ r .pool ≡ poolFirst (recordsAt (now (text .entry)) at) ⌝
+        ∗ ⌜ recordsAt (now (text .entry)) (r .next) ≡ behindOne (recordsAt (now (text .entry)) at) ⌝ }
+{
+    match next_record(text, at) {
+        RecordStep::Record(record, next) => PoolRead {
+            pool: pool_in(record),
+            next,
+        },
+        _ => PoolRead {
+            pool: no_pool(),
+            next: at,
+        },
+    }
+}

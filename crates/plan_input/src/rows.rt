@@ -1,0 +1,34 @@
+// Rows 4 and 5 of a list of ranges, looked at as they are read.
+ghost use mathlib.Core.Path.{_≡_};
+ghost use Rattle.plan_input.specs.Rows.{checkStart, checkedWith};
+use memory_range::MemoryRange;
+
+pub(crate) struct RangeCheck {
+    // Whether all ranges so far are valid, and whether they ascend.
+    pub valid: bool,
+    pub ascending: bool,
+    // The end of the last one.
+    pub above: u64,
+}
+
+impl RangeCheck {
+    pub(crate) fn start() -> RangeCheck
+        ensures { λ r. ⌜ r ≡ checkStart ⌝ }
+    {
+        RangeCheck {
+            valid: true,
+            ascending: true,
+            above: 0,
+        }
+    }
+
+    pub(crate) fn with(self, range: MemoryRange) -> RangeCheck
+        ensures { λ r. ⌜ r ≡ checkedWith self range ⌝ }
+    {
+        RangeCheck {
+            valid: self.valid & range.is_valid(),
+            ascending: self.ascending & (self.above <= range.start),
+            above: range.end,
+        }
+    }
+}
