@@ -25,7 +25,7 @@ use Rattle.address_space.specs.declared.table.AddressSpaceManager.{Addre
 use Rattle.address_space.specs.Fit.{alignedTo, fitsIn}
 use Rattle.address_space.specs.Search.{Search, nothing, found, searched, belowIn, aboveIn}
 use Rattle.address_space.specs.Split.{allotted, splitEntry}
-use Rattle.address_space.specs.Table.{maxAddressRanges, poolOf, tableWith}
+use Rattle.address_space.specs.Table.{maxAddressRanges, entriesOf, poolOf, tableWith}
 use Rattle.address_space.specs.Usage.{usageFor, isPool}
 
 -- what a request comes to: a refusal's number, or the range handed out with its node, and the entries afterwards
@@ -88,3 +88,7 @@ refusedWith m n = record { answer = Refused n; manager = m }
 abbrev pub allocationAs : AddressSpaceManager → AllocationType → Outcome → Allocation
 allocationAs m type (refused n) = refusedWith m n
 allocationAs m type (handed x es) = record { answer = Range x; manager = tableWith m es (poolOf m || isPool type) }
+
+-- a request made of a table: the answer, and the table afterwards
+abbrev pub allocationOf : AddressSpaceManager → OptionU32 → ℕ → AllocationType → AllocationPolicy → OptionU64 → Allocation
+allocationOf m asked len type policy alignment = allocationAs m type (requested asked len type policy alignment (entriesOf m))

@@ -4,7 +4,7 @@ ghost use Prim.Native.Nat.{_+_, _<_};
 ghost use lib.ListN.{length, take, drop, getD};
 ghost use Rattle.memory_range.specs.Round.{roundUp};
 ghost use Rattle.memory_range.specs.Valid.{pageSize};
-ghost use Rattle.address_space.specs.Request.{alignmentGood, rowsRefusal, lengthAs, placed, allocated, requested, refusedWith, allocationAs};
+ghost use Rattle.address_space.specs.Request.{alignmentGood, rowsRefusal, lengthAs, placed, allocated, refusedWith, allocationAs, allocationOf};
 ghost use Rattle.address_space.specs.Table.{entriesOf, noEntry};
 ghost use Rattle.host_params.specs.declared.OptionU64.the-variants as optionU64;
 use crate::fit::aligned_to;
@@ -152,18 +152,16 @@ impl AddressSpaceManager {
         }
     }
 
-    // Hands out a range of at least len bytes, of the node if one is given.
-    pub fn allocate(
+    // Hands out a range of at least len bytes, of the node if one is given. By value, for callers that
+    // keep the table themselves.
+    pub fn request(
         self,
         required_vnode: OptionU32,
         len: u64,
         allocation_type: AllocationType,
         allocation_policy: AllocationPolicy,
     ) -> Allocation
-        ensures { λ r. ⌜
-            r ≡ allocationAs self «allocation_type»
-            (requested «required_vnode» len «allocation_type» «allocation_policy» optionU64.None (entriesOf self))
-            ⌝ }
+        ensures { λ r. ⌜ r ≡ allocationOf self «required_vnode» len «allocation_type» «allocation_policy» optionU64.None ⌝ }
     {
         match check_rows(len, OptionU64::None) {
             Length::Refused(number) => refused(self, number),
@@ -178,7 +176,8 @@ impl AddressSpaceManager {
     }
 
     // The same, with the start of a low range, or the end of a high one, a multiple of the alignment.
-    pub fn allocate_aligned(
+    // By value too.
+    pub fn request_aligned(
         self,
         required_vnode: OptionU32,
         len: u64,
@@ -186,10 +185,7 @@ impl AddressSpaceManager {
         allocation_policy: AllocationPolicy,
         alignment: u64,
     ) -> Allocation
-        ensures { λ r. ⌜
-            r ≡ allocationAs self «allocation_type»
-            (requested «required_vnode» len «allocation_type» «allocation_policy» (optionU64.Some alignment) (entriesOf self))
-            ⌝ }
+        ensures { λ r. ⌜ r ≡ allocationOf self «required_vnode» len «allocation_type» «allocation_policy» (optionU64.Some alignment) ⌝ }
     {
         match check_rows(len, OptionU64::Some(alignment)) {
             Length::Refused(number) => refused(self, number),

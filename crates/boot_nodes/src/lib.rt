@@ -2,6 +2,8 @@
 mod node;
 mod share;
 
+pub use node::NumaNodes;
 pub use node::numa_node_count;
+pub use node::numa_nodes;
 pub use share::ALIGNMENT_GRANULARITY;
 pub use share::ram_per_node;

@@ -45,9 +45,9 @@ fn request(table: AddressSpaceManager, list: &[u64]) -> Allocation {
     let kind = kind(at(list, 5));
     let policy = policy(at(list, 6));
     if at(list, 7) == 1 {
-        return table.allocate_aligned(vnode, len, kind, policy, at(list, 8));
+        return table.request_aligned(vnode, len, kind, policy, at(list, 8));
     }
-    table.allocate(vnode, len, kind, policy)
+    table.request(vnode, len, kind, policy)
 }
 
 fn with_got(got: AllocatedRange) -> Numbers {

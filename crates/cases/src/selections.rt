@@ -12,12 +12,17 @@ use super::case::tag_part;
 use super::entries::ENTRIES;
 use super::entries::Lists;
 use super::ranges::number;
+use host_map::MAP_ROOM;
+use host_map::no_entry;
 use host_params::IsolationType;
 use host_params::MemoryAllocationMode;
+use host_params::MemoryEntry;
+use host_params::MemoryMapEntryType;
 use host_params::OptionU64;
 use memory_range::MemoryRange;
 use vtl2_ram::Selection;
 use vtl2_ram::Vtl2Ram;
+use vtl2_ram::select_from_array;
 
 // Number k of a run.
 fn run_number(list: &[u64], run: usize, k: usize) -> u64 {
@@ -87,26 +92,34 @@ fn ram_size(is_given: bool, size: u64) -> OptionU64 {
     OptionU64::None
 }
 
-fn flag_part<'a>(flags: &'a [bool], a: usize, b: usize) -> &'a [bool] {
-    if a <= b {
-        if b <= flags.len() {
-            return &flags[a..b];
-        }
+fn mem_type(is_protectable: bool) -> MemoryMapEntryType {
+    if is_protectable {
+        return MemoryMapEntryType::Vtl2Protectable;
     }
-    &flags[..0]
+    MemoryMapEntryType::Memory
 }
 
-// What the map selects, its entries below place `map`, with the imports from there to place `imports`.
-fn select_from<'a>(
-    list: &'a [u64],
-    map: usize,
-    imports: usize,
-    starts: &'a [u64],
-    ends: &'a [u64],
-    nodes: &'a [u32],
-    protectable: &'a [bool],
-) -> Vtl2Ram {
-    vtl2_ram::select_vtl2_ram(
+// The entries of a map.
+fn entries_of(map: Lists) -> [MemoryEntry; MAP_ROOM] {
+    let mut entries = [no_entry(); MAP_ROOM];
+    for i in 0..MAP_ROOM {
+        entries[i] = MemoryEntry {
+            range: MemoryRange {
+                start: map.starts[i],
+                end: map.ends[i],
+            },
+            vnode: map.nodes[i],
+            mem_type: mem_type(map.protectable[i]),
+        };
+    }
+    entries
+}
+
+// What the line's lists of entries select.
+fn select<'a>(list: &'a [u64], map: &'a [u64], imports: &'a [u64]) -> Vtl2Ram {
+    let map = with_runs(Lists::none(), map);
+    let imports = with_runs(Lists::none(), imports);
+    select_from_array(
         mode(at(list, 0)),
         isolation(at(list, 1)),
         ram_size(at(list, 2) == 1, at(list, 3)),
@@ -114,28 +127,10 @@ fn select_from<'a>(
             start: at(list, 4),
             end: at(list, 5),
         },
-        part(starts, 0, map),
-        part(ends, 0, map),
-        tag_part(nodes, 0, map),
-        flag_part(protectable, 0, map),
-        part(starts, map, imports),
-        part(ends, map, imports),
-    )
-}
-
-// What the line's lists of entries select.
-fn select<'a>(list: &'a [u64], map: &'a [u64], imports: &'a [u64]) -> Vtl2Ram {
-    let lists = with_runs(Lists::none(), map);
-    let map = lists.count;
-    let lists = with_runs(lists, imports);
-    select_from(
-        list,
-        map,
-        lists.count,
-        &lists.starts,
-        &lists.ends,
-        &lists.nodes,
-        &lists.protectable,
+        entries_of(map),
+        map.count,
+        part(&imports.starts, 0, imports.count),
+        part(&imports.ends, 0, imports.count),
     )
 }
 

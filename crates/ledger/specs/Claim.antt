@@ -17,7 +17,7 @@ use Rattle.host_params.specs.declared.OptionU64.{OptionU64}
 use Rattle.boot_ram.specs.Held.{onNode, bytesOf}
 use Rattle.vtl2_ram.specs.Choice.{chosen}
 use Rattle.vtl2_ram.specs.Claim.{shareIn, InOrder, BootClaim}
-use Rattle.vtl2_ram.specs.Map.{entriesIn}
+use Rattle.host_map.specs.Map.{entriesIn}
 use Rattle.vtl2_ram.specs.Select.{choice}
 use Rattle.address_space.specs.declared.request.AllocatedRange.{AllocatedRange}
 use Rattle.address_space.specs.declared.table.AddressRange.{AddressRange}

@@ -12,6 +12,7 @@ mod range;
 mod round;
 mod valid;
 
+pub use list::at_most;
 pub use list::range_count;
 pub use list::tagged_count;
 pub use power::is_power_of_two;

@@ -1,5 +1,6 @@
 // How many items slices of fields hold: as many as the shortest has elements.
 ghost use mathlib.Core.Path.{_≡_};
+ghost use Prim.Native.Nat.{min};
 ghost use lib.ListN.{length};
 ghost use Rattle.memory_range.specs.List.{rangesOf, taggedOf};
 
@@ -27,4 +28,14 @@ pub fn tagged_count<'a>(starts: &'a [u64], ends: &'a [u64], tags: &'a [u32]) -> 
         return tags.len();
     }
     starts.len()
+}
+
+// How many of so many items there is room for.
+pub fn at_most(count: usize, room: usize) -> usize
+    ensures { λ r. ⌜ r ≡ min count room ⌝ }
+{
+    if count <= room {
+        return count;
+    }
+    room
 }

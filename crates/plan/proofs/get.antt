@@ -1,2 +1,3 @@
 -- The proofs of `get`.
 pub mod Laws
+pub mod Lent

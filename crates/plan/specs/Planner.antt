@@ -17,7 +17,7 @@ use Rattle.vtl2_ram.specs.declared.ram.Vtl2Ram.{Vtl2Ram}
 use Rattle.vtl2_ram.specs.Ram.{ramAs}
 use Rattle.vtl2_ram.specs.Choice.{Choice, chosen}
 use Rattle.vtl2_ram.specs.Choice as choice-of
-use Rattle.vtl2_ram.specs.Map.{mapRanges}
+use Rattle.host_map.specs.Map.{mapRanges}
 use Rattle.vtl2_ram.specs.Select.{choice}
 use Rattle.address_space.specs.declared.request.AllocatedRange.{AllocatedRange}
 use Rattle.address_space.specs.declared.table.AddressRange.{AddressRange}

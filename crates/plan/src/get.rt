@@ -53,24 +53,29 @@ fn next_get(text: &[u8], at: usize) -> GetStep
 fn answer_get(manager: AddressSpaceManager, get: Get) -> Allocation
     ensures { λ r. ⌜ r ≡ allocationAs manager (get .«allocation_type») (outcomeOn get (entriesOf manager)) ⌝ }
 {
+    let mut table = manager;
     let required_vnode = get.required_vnode;
     let allocation_type = get.allocation_type;
     let allocation_policy = get.allocation_policy;
     let alignment = get.alignment;
-    match alignment {
-        OptionU64::None => manager.allocate(
+    let answer = match alignment {
+        OptionU64::None => table.allocate(
             required_vnode,
             get.len,
             allocation_type,
             allocation_policy,
         ),
-        OptionU64::Some(alignment) => manager.allocate_aligned(
+        OptionU64::Some(alignment) => table.allocate_aligned(
             required_vnode,
             get.len,
             allocation_type,
             allocation_policy,
             alignment,
         ),
+    };
+    Allocation {
+        answer,
+        manager: table,
     }
 }
 

@@ -1,11 +1,10 @@
 // The plan of a text. What is lent as output is written only once no refusal of the whole plan can
 // follow.
 ghost use mathlib.Core.Path.{_≡_};
-ghost use Prim.Native.Nat.{_≤_, min};
+ghost use Prim.Native.Nat.{_≤_};
 ghost use lib.ListN.{length, take};
 ghost use Rattle.memory_range.specs.List.{rangesOf, firstTagged};
 ghost use Rattle.boot_ram.specs.Held.{bytesOf};
-ghost use Rattle.vtl2_ram.specs.Map.{mapOf};
 ghost use Rattle.vtl2_ram.specs.Ram.{ramAs};
 ghost use Rattle.vtl2_ram.specs.Select.{choice};
 ghost use Rattle.address_space.specs.Table.{entriesOf};
@@ -29,9 +28,9 @@ use host_params::IsolationType;
 use host_params::MAX_VTL2_RAM_RANGES;
 use memory::AddressSpaceManagerBuilder;
 use memory::Initialized;
+use memory_range::at_most;
 use plan_input::CONFIG_ROOM;
 use plan_input::IMPORT_ROOM;
-use plan_input::MAP_ROOM;
 use plan_input::POOL_ROOM;
 use plan_input::PoolRead;
 use plan_input::SelectionRead;
@@ -48,7 +47,7 @@ use refusal::RANGE_INVALID;
 use refusal::RANGES_NOT_ASCENDING;
 use vtl2_ram::Selection;
 use vtl2_ram::Vtl2Ram;
-use vtl2_ram::select_vtl2_ram;
+use vtl2_ram::select_from_array;
 
 // The bytes of the shortest request: `get`, five fields of a byte, and the byte behind each of the six.
 const SHORTEST_GET: usize = 3 + 5 + 6;
@@ -178,15 +177,6 @@ fn plan_ram<'a>(
     }
 }
 
-fn at_most(count: usize, room: usize) -> usize
-    ensures { λ r. ⌜ r ≡ min count room ⌝ }
-{
-    if count <= room {
-        return count;
-    }
-    room
-}
-
 // What the build is given is read, and rows 4 and 5 are looked at over all ranges of the text. They come
 // before every refusal of the selection, whose answer is at hand.
 fn plan_selected(text: &[u8], read: SelectionRead, ram: Vtl2Ram, output: &mut [u8]) -> Planned
@@ -234,18 +224,10 @@ fn plan_selected(text: &[u8], read: SelectionRead, ram: Vtl2Ram, output: &mut [u
 }
 
 // RAM is selected from what was read.
-fn select_ram<'a>(
-    read: SelectionRead,
-    map_starts: &'a [u64],
-    map_ends: &'a [u64],
-    map_nodes: &'a [u32],
-    map_protectable: &'a [bool],
-    import_starts: &'a [u64],
-    import_ends: &'a [u64],
-) -> Vtl2Ram
+fn select_ram<'a>(read: SelectionRead, import_starts: &'a [u64], import_ends: &'a [u64]) -> Vtl2Ram
     ensures { λ r. ⌜
         r ≡ ramAs (choice (read .shape .mode) (read .shape .isolation) (read .shape .«memory_size») (read .file)
-        (mapOf (now («map_starts» .entry)) (now («map_ends» .entry)) (now («map_nodes» .entry)) (now («map_protectable» .entry)))
+        (take (read .«map_count») (read .map))
         (rangesOf (now («import_starts» .entry)) (now («import_ends» .entry))))
         ⌝ }
 {
@@ -253,15 +235,14 @@ fn select_ram<'a>(
     let mode = shape.mode;
     let isolation = shape.isolation;
     let memory_size = shape.memory_size;
-    select_vtl2_ram(
+    let map = read.map;
+    select_from_array(
         mode,
         isolation,
         memory_size,
         read.file,
-        map_starts,
-        map_ends,
-        map_nodes,
-        map_protectable,
+        map,
+        read.map_count,
         import_starts,
         import_ends,
     )
@@ -272,32 +253,11 @@ fn plan_accepted(text: &[u8], output: &mut [u8]) -> Planned
     requires { ⌜ outputSize ≤ length (now output) ⌝ ∗ ⌜ textCheck (now text) ≡ Accepted ⌝ }
     ensures { λ r. ⌜ Answers (planOf (now (text .entry))) (now (output .entry)) (now (output .exit)) r ⌝ }
 {
-    let mut map_starts = [0; MAP_ROOM];
-    let mut map_ends = [0; MAP_ROOM];
-    let mut map_nodes = [0; MAP_ROOM];
-    let mut map_protectable = [false; MAP_ROOM];
     let mut import_starts = [0; IMPORT_ROOM];
     let mut import_ends = [0; IMPORT_ROOM];
-    let read = read_selection(
-        text,
-        &mut map_starts,
-        &mut map_ends,
-        &mut map_nodes,
-        &mut map_protectable,
-        &mut import_starts,
-        &mut import_ends,
-    );
-    let entries = at_most(read.map_count, MAP_ROOM);
+    let read = read_selection(text, &mut import_starts, &mut import_ends);
     let imports = at_most(read.import_count, IMPORT_ROOM);
-    let ram = select_ram(
-        read,
-        &map_starts[..entries],
-        &map_ends[..entries],
-        &map_nodes[..entries],
-        &map_protectable[..entries],
-        &import_starts[..imports],
-        &import_ends[..imports],
-    );
+    let ram = select_ram(read, &import_starts[..imports], &import_ends[..imports]);
     plan_selected(text, read, ram, output)
 }
 

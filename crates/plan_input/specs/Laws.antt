@@ -1,5 +1,4 @@
 -- Laws of what is read of a text.
 pub mod Record
-pub mod Rows
 pub mod Input
 pub mod Room

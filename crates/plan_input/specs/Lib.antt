@@ -3,7 +3,6 @@ pub mod Word
 pub mod Once
 pub mod Range
 pub mod Entry
-pub mod Rows
 pub mod Selection
 pub mod Build
 pub mod Input

@@ -4,10 +4,11 @@ use mathlib.Core.Path.{_≡_}
 use mathlib.Core.Bool.{_&&_}
 use mathlib.Core.List.{List}
 use lib.ListN.{length}
+use lib.Seq.{sets}
 use Rattle.memory_range.specs.declared.range.MemoryRange.{MemoryRange}
 use Rattle.memory_range.specs.Valid.{validRange, allValid, ascend}
 use Rattle.host_params.specs.declared.MemoryEntry.{MemoryEntry}
-use Rattle.vtl2_ram.specs.Map.{mapRanges}
+use Rattle.host_map.specs.Map.{mapRanges}
 use Rattle.plan_record.specs.declared.record.Record.{Record}
 use Rattle.plan_record.specs.declared.record.Shape.{Shape}
 use Rattle.plan_input.specs.declared.selection.SelectionRead.{SelectionRead}
@@ -16,6 +17,7 @@ use Rattle.plan_input.specs.Word.{behindWord, behindWords}
 use Rattle.plan_input.specs.Range.{rangeFirst, rangesFirst, orEmpty}
 use Rattle.plan_input.specs.Entry.{entriesFirst}
 use Rattle.plan_input.specs.Once.{shapeFirst}
+use Rattle.plan_input.specs.Room.{noMap}
 
 -- a shape, the file's range, the map, the imported ranges, and the records behind them
 pub record SelectionIn : Type 0 where
@@ -38,10 +40,11 @@ selectionIn rs =
       rest = behindWords 3 c;
     }
 
--- an answer that holds them: counts for the lists, and rows 4 and 5 of the ranges
+-- an answer that holds them: the map, as far as there is room, counts for the lists, and rows 4 and 5 of the ranges
 pub record SelectionHeld (text : List ℕ) (s : SelectionIn) (r : SelectionRead) : Type 0 where
   pub shape : r .shape ≡ s .shape
   pub file : r .file ≡ s .file
+  pub map : r .map ≡ sets noMap 0 (s .map)
   pub map-count : r .«map_count» ≡ length (s .map)
   pub import-count : r .«import_count» ≡ length (s .imports)
   pub valid : r .valid ≡ (validRange (s .file) && (allValid (mapRanges (s .map)) && allValid (s .imports)))

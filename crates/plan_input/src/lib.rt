@@ -5,7 +5,6 @@ mod entry;
 mod list;
 mod once;
 mod range;
-mod rows;
 mod selection;
 mod word;
 
@@ -16,6 +15,5 @@ pub use build::read_build;
 pub use once::PoolRead;
 pub use once::read_pool;
 pub use selection::IMPORT_ROOM;
-pub use selection::MAP_ROOM;
 pub use selection::SelectionRead;
 pub use selection::read_selection;

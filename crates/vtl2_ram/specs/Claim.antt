@@ -16,16 +16,12 @@ use Rattle.range_lists.specs.Laws.Node.{has}
 use Rattle.host_params.specs.declared.MemoryEntry.{MemoryEntry}
 use Rattle.host_params.specs.declared.OptionU64.{OptionU64}
 use Rattle.boot_ram.specs.Held.{holdersOn, onNode, bytesOf}
-use Rattle.boot_nodes.specs.Node.{distinct}
+use Rattle.boot_nodes.specs.Node.{nodesIn}
 use Rattle.boot_nodes.specs.Share.{shareStep, shareOf}
 use Rattle.boot_ram.specs.Verdict.{maxChosen}
 use Rattle.vtl2_ram.specs.Boot.{sizeWanted}
-use Rattle.vtl2_ram.specs.Map.{entriesIn}
 
--- the nodes of a map, and the share of each of them
-abbrev pub nodesIn : List MemoryEntry → List ℕ
-nodesIn map = distinct (tagsOf (entriesIn map))
-
+-- the share of each node of a map
 abbrev pub shareIn : OptionU64 → MemoryRange → List MemoryEntry → ℕ
 shareIn size file map = shareOf (sizeWanted size file) (length (nodesIn map))
 

@@ -19,7 +19,7 @@ use Rattle.refusal.specs.Answer.{countedAs}
 use Rattle.refusal.specs.Number.{shareTooLarge, tooManyPieces}
 use Rattle.refusal.specs.Rows.{refusedIf}
 use Rattle.vtl2_ram.specs.Choice.{Choice, chosen, unless}
-use Rattle.vtl2_ram.specs.Map.{protectableIn}
+use Rattle.host_map.specs.Map.{protectableIn}
 
 abbrev pub isHardwareIsolated : IsolationType → Bool
 isHardwareIsolated None = false

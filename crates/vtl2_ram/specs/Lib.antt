@@ -1,4 +1,3 @@
-pub mod Map
 pub mod Choice
 pub mod Ram
 pub mod Rows

@@ -7,6 +7,7 @@ use lib.Dec.{leb, eqb}
 use lib.ListN.{length}
 use Rattle.memory_range.specs.declared.range.MemoryRange.{MemoryRange}
 use Rattle.memory_range.specs.Valid.{validRange, allValid, ascend}
+use Rattle.host_map.specs.Map.{maxEntries}
 use Rattle.host_params.specs.declared.MemoryAllocationMode.{MemoryAllocationMode}
 use Rattle.host_params.specs.declared.MemoryAllocationMode.the-variants.{Host, Vtl2}
 use Rattle.refusal.specs.Number.{rangeInvalid, rangesNotAscending, mapCount}
@@ -16,10 +17,7 @@ abbrev pub isBoot : MemoryAllocationMode → Bool
 isBoot Host = false
 isBoot Vtl2 = true
 
--- at most so many entries of the map, and imported ranges
-abbrev pub maxEntries : ℕ
-maxEntries = 1024
-
+-- at most so many imported ranges
 abbrev pub maxImports : ℕ
 maxImports = 256
 
@@ -34,4 +32,13 @@ rowsRefusal mode file map imports =
     (refusedIf (not (validRange file && (allValid map && allValid imports))) rangeInvalid
     ∷ refusedIf (not (ascend map && ascend imports)) rangesNotAscending
     ∷ refusedIf (not (countsGood mode (length map) (length imports))) mapCount
+    ∷ [])
+
+-- the same by what is known of a map: whether its ranges are valid, whether they ascend, and how many there are
+unfoldable pub rowsKnown : MemoryAllocationMode → MemoryRange → Bool → Bool → ℕ → List MemoryRange → Option ℕ
+rowsKnown mode file valid ascending count imports =
+    downward
+    (refusedIf (not (validRange file && (valid && allValid imports))) rangeInvalid
+    ∷ refusedIf (not (ascending && ascend imports)) rangesNotAscending
+    ∷ refusedIf (not (countsGood mode count (length imports))) mapCount
     ∷ [])

@@ -4,7 +4,7 @@ ghost use Rattle.memory_range.specs.Bytes.{Ordered};
 ghost use Rattle.memory_range.specs.List.{rangesIn, rangesOf, taggedOf, startsOf, endsOf, tagsOf, firstTagged};
 ghost use lib.ListN.{length};
 ghost use Rattle.boot_nodes.specs.Share.{shareOf};
-ghost use Rattle.boot_nodes.specs.Node.{countUp};
+ghost use Rattle.boot_nodes.specs.Node.{countUp, nodesCounted};
 ghost use Rattle.boot_ram.specs.Verdict.{written, chosenCounted};
 ghost use Rattle.boot_take.specs.Laws.Stored.{Stored};
 ghost use Rattle.vtl2_ram.specs.Ram.{ramAs};
@@ -13,7 +13,6 @@ ghost use Rattle.vtl2_ram.specs.Choice.{entriesOf};
 use crate::ram::Vtl2Ram;
 use crate::ram::chosen_ram;
 use crate::ram::refused_ram;
-use boot_nodes::numa_node_count;
 use boot_nodes::ram_per_node;
 use boot_ram::FilePieces;
 use boot_ram::MAX_FREE_PIECES;
@@ -277,14 +276,16 @@ pub(crate) fn allocate_vtl2_ram<'a>(
     map_starts: &'a [u64],
     map_ends: &'a [u64],
     map_nodes: &'a [u32],
+    numa_node_count: Counted,
     import_starts: &'a [u64],
     import_ends: &'a [u64],
 ) -> Vtl2Ram
-    requires { ⌜ tagsOf (taggedOf (now «map_starts») (now «map_ends») (now «map_nodes»)) ≡ now «map_nodes» ⌝
+    requires { ⌜ «numa_node_count» ≡ nodesCounted (now «map_nodes») ⌝
+        ∗ ⌜ tagsOf (taggedOf (now «map_starts») (now «map_ends») (now «map_nodes»)) ≡ now «map_nodes» ⌝
         ∗ ⌜ RowsPassed file (taggedOf (now «map_starts») (now «map_ends») (now «map_nodes»)) (rangesOf (now «import_starts») (now «import_ends»)) ⌝ }
     ensures { λ r. ⌜ r ≡ ramAs (bootChoice isolation «ram_size» file (taggedOf (now («map_starts» .entry)) (now («map_ends» .entry)) (now («map_nodes» .entry))) (rangesOf (now («import_starts» .entry)) (now («import_ends» .entry)))) ⌝ }
 {
-    match numa_node_count(map_nodes) {
+    match numa_node_count {
         Counted::Refused(number) => refused_ram(number),
         Counted::Count(count) => match node_share(ram_size, file, count) {
             NodeShare::Refused(number) => refused_ram(number),

@@ -7,7 +7,7 @@ ghost use Rattle.memory_range.specs.Valid.{validRange};
 ghost use mathlib.Core.Bool.{true};
 ghost use Rattle.boot_ram.specs.Held.{bytesOf};
 ghost use Rattle.boot_ram.specs.Verdict.{maxChosen, written};
-ghost use Rattle.vtl2_ram.specs.Map.{mapOf, mapRanges, protectableIn, SameLengths};
+ghost use Rattle.host_map.specs.Map.{mapOf, mapRanges, protectableIn, SameLengths};
 ghost use Rattle.vtl2_ram.specs.Ram.{ramAs};
 ghost use Rattle.vtl2_ram.specs.Host.{isHardwareIsolated, isolatedChoice, protectableCounted, protectableChoice, hostChoice};
 use crate::ram::Vtl2Ram;

@@ -1,8 +1,10 @@
 // The checks of a selection's lists.
 ghost use mathlib.Core.Path.{_≡_};
 ghost use Rattle.memory_range.specs.List.{rangesOf};
-ghost use Rattle.vtl2_ram.specs.Rows.{isBoot, countsGood, rowsRefusal};
+ghost use Rattle.vtl2_ram.specs.Rows.{isBoot, countsGood, rowsKnown};
 ghost use Rattle.refusal.specs.Answer.{rowsAs};
+use host_map::MAX_PARTITION_RAM_RANGES;
+use host_map::RangeCheck;
 use host_params::MemoryAllocationMode;
 use memory_range::MemoryRange;
 use memory_range::range_count;
@@ -12,8 +14,6 @@ use refusal::MAP_COUNT;
 use refusal::RANGE_INVALID;
 use refusal::RANGES_NOT_ASCENDING;
 use refusal::Rows;
-
-const MAX_PARTITION_RAM_RANGES: usize = 1024;
 
 const MAX_IMPORTS: usize = 256;
 
@@ -41,37 +41,31 @@ fn counts_good(mode: MemoryAllocationMode, map_count: usize, import_count: usize
     true
 }
 
-// Row 4 over all ranges, then 5 over both lists, then 6.
+// Row 4 over all ranges, then 5 over both lists, then 6. Of the map it is known what was seen while it was
+// copied.
 pub(crate) fn check_rows<'a>(
     mode: MemoryAllocationMode,
     file: MemoryRange,
-    map_starts: &'a [u64],
-    map_ends: &'a [u64],
+    map_check: RangeCheck,
+    map_count: usize,
     import_starts: &'a [u64],
     import_ends: &'a [u64],
 ) -> Rows
-    ensures { λ r. ⌜ r ≡ rowsAs (rowsRefusal mode file (rangesOf (now («map_starts» .entry)) (now («map_ends» .entry))) (rangesOf (now («import_starts» .entry)) (now («import_ends» .entry)))) ⌝ }
+    ensures { λ r. ⌜ r ≡ rowsAs (rowsKnown mode file («map_check» .valid) («map_check» .ascending) «map_count» (rangesOf (now («import_starts» .entry)) (now («import_ends» .entry)))) ⌝ }
 {
-    if !file.is_valid() {
-        return Rows::Refused(RANGE_INVALID);
-    }
-    if !ranges_valid(map_starts, map_ends) {
+    if !(file.is_valid() & map_check.valid) {
         return Rows::Refused(RANGE_INVALID);
     }
     if !ranges_valid(import_starts, import_ends) {
         return Rows::Refused(RANGE_INVALID);
     }
-    if !ranges_ascend(map_starts, map_ends) {
+    if !map_check.ascending {
         return Rows::Refused(RANGES_NOT_ASCENDING);
     }
     if !ranges_ascend(import_starts, import_ends) {
         return Rows::Refused(RANGES_NOT_ASCENDING);
     }
-    if !counts_good(
-        mode,
-        range_count(map_starts, map_ends),
-        range_count(import_starts, import_ends),
-    ) {
+    if !counts_good(mode, map_count, range_count(import_starts, import_ends)) {
         return Rows::Refused(MAP_COUNT);
     }
     Rows::Passed

@@ -1,39 +1,71 @@
-// Selection: the rows of the chart in turn, then boot or host mode.
+// Selection: the map is copied from the caller's list of entries, the rows of the chart are looked at in turn,
+// and then boot or host mode chooses.
 ghost use mathlib.Core.Path.{_≡_};
-ghost use lib.ListN.{length};
-ghost use Rattle.memory_range.specs.List.{rangesOf};
-ghost use Rattle.vtl2_ram.specs.Map.{mapOf, SameLengths};
+ghost use Prim.Native.Nat.{_≤_};
+ghost use lib.ListN.{take};
+ghost use Rattle.memory_range.specs.List.{rangesOf, taggedOf};
+ghost use Rattle.host_map.specs.Map.{maxEntries, mapOf, isProtectable, SameLengths};
+ghost use Rattle.boot_nodes.specs.Node.{nodesCounted};
+ghost use Rattle.vtl2_ram.specs.Boot.{RowsPassed};
 ghost use Rattle.vtl2_ram.specs.Ram.{ramAs};
-ghost use Rattle.vtl2_ram.specs.Select.{choice};
+ghost use Rattle.vtl2_ram.specs.Select.{choiceBy, Copied, MapArrays, Listed, choiceCopied, choice};
 use crate::boot::allocate_vtl2_ram;
 use crate::host::parse_host_vtl2_ram;
 use crate::ram::Vtl2Ram;
 use crate::ram::refused_ram;
 use crate::rows::check_rows;
+use boot_nodes::NumaNodes;
+use boot_nodes::numa_node_count;
+use boot_nodes::numa_nodes;
+use host_map::Entries;
+use host_map::MAP_ROOM;
+use host_map::MAX_PARTITION_RAM_RANGES;
+use host_map::copy_entries;
 use host_params::IsolationType;
 use host_params::MemoryAllocationMode;
+use host_params::MemoryEntry;
+use host_params::MemoryMapEntryType;
 use host_params::OptionU64;
 use memory_range::MemoryRange;
-use memory_range::tagged_count;
+use memory_range::at_most;
+use refusal::Counted;
 use refusal::Rows;
 
-// How many entries four slices hold: as many as the shortest has elements.
-fn entry_count<'a>(
-    starts: &'a [u64],
-    ends: &'a [u64],
-    nodes: &'a [u32],
-    protectable: &'a [bool],
-) -> usize
-    ensures { λ r. ⌜ r ≡ length (mapOf (now (starts .entry)) (now (ends .entry)) (now (nodes .entry)) (now (protectable .entry))) ⌝ }
+fn is_protectable(mem_type: MemoryMapEntryType) -> bool
+    ensures { λ r. ⌜ r ≡ isProtectable «mem_type» ⌝ }
 {
-    let count = tagged_count(starts, ends, nodes);
-    if protectable.len() <= count {
-        return protectable.len();
+    match mem_type {
+        MemoryMapEntryType::Vtl2Protectable => true,
+        MemoryMapEntryType::Memory => false,
     }
-    count
 }
 
-fn select_within<'a>(
+// The copied entries as four lists of numbers and flags, in the first places of arrays: the walks of both
+// modes go over such lists.
+fn list_entries(
+    map: Entries,
+    starts: &mut [u64; MAX_PARTITION_RAM_RANGES],
+    ends: &mut [u64; MAX_PARTITION_RAM_RANGES],
+    nodes: &mut [u32; MAX_PARTITION_RAM_RANGES],
+    protectable: &mut [bool; MAX_PARTITION_RAM_RANGES],
+)
+    requires { ⌜ map .count ≤ maxEntries ⌝ ∗ ⌜ MapArrays (now starts) (now ends) (now nodes) (now protectable) ⌝ }
+    ensures { λ _. ⌜ Listed (map .count) (map .entries) (now (starts .exit)) (now (ends .exit)) (now (nodes .exit)) (now (protectable .exit)) ⌝ }
+{
+    let mut i = 0;
+    while i < map.count {
+        let entry = map.entries[i];
+        let mem_type = entry.mem_type;
+        starts[i] = entry.range.start;
+        ends[i] = entry.range.end;
+        nodes[i] = entry.vnode;
+        protectable[i] = is_protectable(mem_type);
+        i += 1;
+    }
+}
+
+// The mode's own choice, once rows 4 to 6 are passed.
+fn select_listed<'a>(
     mode: MemoryAllocationMode,
     isolation: IsolationType,
     ram_size: OptionU64,
@@ -42,64 +74,131 @@ fn select_within<'a>(
     map_ends: &'a [u64],
     map_nodes: &'a [u32],
     map_protectable: &'a [bool],
+    numa_node_count: Counted,
     import_starts: &'a [u64],
     import_ends: &'a [u64],
 ) -> Vtl2Ram
-    requires { ⌜ SameLengths (now «map_starts») (now «map_ends») (now «map_nodes») (now «map_protectable») ⌝ }
-    ensures { λ r. ⌜ r ≡ ramAs (choice mode isolation «ram_size» file (mapOf (now («map_starts» .entry)) (now («map_ends» .entry)) (now («map_nodes» .entry)) (now («map_protectable» .entry))) (rangesOf (now («import_starts» .entry)) (now («import_ends» .entry)))) ⌝ }
+    requires { ⌜ SameLengths (now «map_starts») (now «map_ends») (now «map_nodes») (now «map_protectable») ⌝
+        ∗ ⌜ RowsPassed file (taggedOf (now «map_starts») (now «map_ends») (now «map_nodes»)) (rangesOf (now «import_starts») (now «import_ends»)) ⌝
+        ∗ ⌜ «numa_node_count» ≡ nodesCounted (now «map_nodes») ⌝ }
+    ensures { λ r. ⌜ r ≡ ramAs (choiceBy mode isolation «ram_size» file (mapOf (now («map_starts» .entry)) (now («map_ends» .entry)) (now («map_nodes» .entry)) (now («map_protectable» .entry))) (rangesOf (now («import_starts» .entry)) (now («import_ends» .entry)))) ⌝ }
 {
-    match check_rows(mode, file, map_starts, map_ends, import_starts, import_ends) {
+    match mode {
+        MemoryAllocationMode::Host => parse_host_vtl2_ram(
+            isolation,
+            file,
+            map_starts,
+            map_ends,
+            map_nodes,
+            map_protectable,
+        ),
+        MemoryAllocationMode::Vtl2 => allocate_vtl2_ram(
+            isolation,
+            ram_size,
+            file,
+            map_starts,
+            map_ends,
+            map_nodes,
+            numa_node_count,
+            import_starts,
+            import_ends,
+        ),
+    }
+}
+
+// From a copy of the map and its nodes: the rows, then the mode's own choice.
+fn select_from<'a>(
+    mode: MemoryAllocationMode,
+    isolation: IsolationType,
+    ram_size: OptionU64,
+    file: MemoryRange,
+    map: Entries,
+    nodes: NumaNodes,
+    import_starts: &'a [u64],
+    import_ends: &'a [u64],
+) -> Vtl2Ram
+    requires { ⌜ Copied map nodes ⌝ }
+    ensures { λ r. ⌜ r ≡ ramAs (choiceCopied mode isolation «ram_size» file map (rangesOf (now («import_starts» .entry)) (now («import_ends» .entry)))) ⌝ }
+{
+    let count = map.count;
+    match check_rows(mode, file, map.check, count, import_starts, import_ends) {
         Rows::Refused(number) => refused_ram(number),
-        Rows::Passed => match mode {
-            MemoryAllocationMode::Host => parse_host_vtl2_ram(
-                isolation,
-                file,
-                map_starts,
-                map_ends,
-                map_nodes,
-                map_protectable,
-            ),
-            MemoryAllocationMode::Vtl2 => allocate_vtl2_ram(
+        Rows::Passed => {
+            let mut map_starts = [0; MAX_PARTITION_RAM_RANGES];
+            let mut map_ends = [0; MAX_PARTITION_RAM_RANGES];
+            let mut map_nodes = [0; MAX_PARTITION_RAM_RANGES];
+            let mut map_protectable = [false; MAX_PARTITION_RAM_RANGES];
+            list_entries(
+                map,
+                &mut map_starts,
+                &mut map_ends,
+                &mut map_nodes,
+                &mut map_protectable,
+            );
+            select_listed(
+                mode,
                 isolation,
                 ram_size,
                 file,
-                map_starts,
-                map_ends,
-                map_nodes,
+                &map_starts[..count],
+                &map_ends[..count],
+                &map_nodes[..count],
+                &map_protectable[..count],
+                numa_node_count(nodes),
                 import_starts,
                 import_ends,
-            ),
-        },
+            )
+        }
     }
 }
 
-// The RAM of VTL2, or the refusal. An entry of the map has a start, an end, a node, and whether the
-// host keeps it for VTL2; of lists that differ in length the shortest tells how many entries there
-// are.
-pub fn select_vtl2_ram<'a>(
+// The RAM of VTL2, or the refusal, from the host's map as the caller lends it.
+pub fn select_vtl2_ram<'m, 'a>(
     mode: MemoryAllocationMode,
     isolation: IsolationType,
     ram_size: OptionU64,
     file: MemoryRange,
-    map_starts: &'a [u64],
-    map_ends: &'a [u64],
-    map_nodes: &'a [u32],
-    map_protectable: &'a [bool],
+    map: &'m [MemoryEntry],
     import_starts: &'a [u64],
     import_ends: &'a [u64],
 ) -> Vtl2Ram
-    ensures { λ r. ⌜ r ≡ ramAs (choice mode isolation «ram_size» file (mapOf (now («map_starts» .entry)) (now («map_ends» .entry)) (now («map_nodes» .entry)) (now («map_protectable» .entry))) (rangesOf (now («import_starts» .entry)) (now («import_ends» .entry)))) ⌝ }
+    ensures { λ r. ⌜ r ≡ ramAs (choice mode isolation «ram_size» file (now (map .entry)) (rangesOf (now («import_starts» .entry)) (now («import_ends» .entry)))) ⌝ }
 {
-    let count = entry_count(map_starts, map_ends, map_nodes, map_protectable);
-    select_within(
+    let nodes = numa_nodes(map);
+    let copy = copy_entries(map);
+    select_from(
         mode,
         isolation,
         ram_size,
         file,
-        &map_starts[..count],
-        &map_ends[..count],
-        &map_nodes[..count],
-        &map_protectable[..count],
+        copy,
+        nodes,
+        import_starts,
+        import_ends,
+    )
+}
+
+// The same from the first entries of an array, for a caller that holds the map by value.
+pub fn select_from_array<'a>(
+    mode: MemoryAllocationMode,
+    isolation: IsolationType,
+    ram_size: OptionU64,
+    file: MemoryRange,
+    map: [MemoryEntry; MAP_ROOM],
+    count: usize,
+    import_starts: &'a [u64],
+    import_ends: &'a [u64],
+) -> Vtl2Ram
+    ensures { λ r. ⌜ r ≡ ramAs (choice mode isolation «ram_size» file (take count map) (rangesOf (now («import_starts» .entry)) (now («import_ends» .entry)))) ⌝ }
+{
+    let entries = map;
+    let count = at_most(count, MAP_ROOM);
+    select_vtl2_ram(
+        mode,
+        isolation,
+        ram_size,
+        file,
+        &entries[..count],
         import_starts,
         import_ends,
     )

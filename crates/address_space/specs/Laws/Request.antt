@@ -17,11 +17,13 @@ use Rattle.host_params.specs.declared.AllocationPolicy.{AllocationPolicy}
 use Rattle.host_params.specs.declared.AllocationType.{AllocationType}
 use Rattle.host_params.specs.declared.OptionU32.{OptionU32}
 use Rattle.host_params.specs.declared.OptionU64.{OptionU64}
+use Rattle.address_space.specs.declared.request.Allocated.the-variants.{Refused}
 use Rattle.address_space.specs.declared.request.Length.the-variants as length-answer
 use Rattle.address_space.specs.declared.search.Place.the-variants.{At, Nowhere}
 use Rattle.address_space.specs.declared.table.AddressRange.{AddressRange}
+use Rattle.address_space.specs.declared.table.AddressSpaceManager.{AddressSpaceManager}
 use Rattle.address_space.specs.Fit.{fitsIn}
-use Rattle.address_space.specs.Request.{Outcome, refused, alignmentGood, rowsRefusal, placed, placedFrom, allocated, unless, requested, lengthAs}
+use Rattle.address_space.specs.Request.{Outcome, refused, handed, alignmentGood, rowsRefusal, placed, placedFrom, allocated, unless, requested, lengthAs, allocationAs}
 use Rattle.address_space.specs.Search.{Search, nothing, found, searched, belowIn, placeFound}
 use Rattle.address_space.specs.Table.{noEntry}
 use Rattle.address_space.specs.Laws.Search.{found-at}
@@ -106,3 +108,8 @@ module _ (asked : OptionU32) (len : ℕ) (type : AllocationType) (policy : Alloc
   unfolding requested
   requested-rounded k h =
       unless-rounded (rowsRefusal len alignment) (roundUp pageSize len) k (λ n. allocated asked n type policy alignment es) h
+
+-- a request whose answer is a refusal leaves the table as found
+pub refused-as-found : (m : AddressSpaceManager) (type : AllocationType) (o : Outcome) (n : ℕ) → allocationAs m type o .answer ≡ Refused n → allocationAs m type o .manager ≡ m
+refused-as-found m type (refused k) n h = refl
+refused-as-found m type (handed x es) n h = cc

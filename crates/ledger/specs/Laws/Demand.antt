@@ -18,7 +18,7 @@ use Rattle.boot_ram.specs.Held.{onNode, bytesOf}
 use Rattle.boot_take.specs.Laws.Stored.{stored-first}
 use Rattle.vtl2_ram.specs.Choice.{Choice, refused, chosen}
 use Rattle.vtl2_ram.specs.Claim.{shareIn, dueOn}
-use Rattle.vtl2_ram.specs.Map.{entriesIn}
+use Rattle.host_map.specs.Map.{entriesIn}
 use Rattle.vtl2_ram.specs.Ram.{ramAs}
 use Rattle.vtl2_ram.specs.Select.{choice}
 use Rattle.vtl2_ram.specs.Laws.Select.{boot-claimed, chosen-in-order}

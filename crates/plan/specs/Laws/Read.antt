@@ -3,21 +3,19 @@ use Prim.Native.Nat.{ℕ, _≤_, min}
 use mathlib.Core.Path.{_≡_, refl, ap, sym, _∙_}
 use mathlib.Core.Bool.{Bool, true, false, _&&_, not, and-eq-true-iff}
 use mathlib.Core.List.{List, [], _∷_}
-use mathlib.Core.Option.{some}
 use native.Mathlib.Omega.{arith}
 use lib.ListN.{length, take, replicate, length-replicate}
 use lib.Seq.{sets, length-sets}
 use Rattle.refusal.specs.Number.{rangeInvalid, rangesNotAscending}
 use Rattle.refusal.specs.Rows.{refusedIf, downward}
 use Rattle.memory_range.specs.declared.range.MemoryRange.{MemoryRange}
-use Rattle.memory_range.specs.List.{rangesOf, startsOf, endsOf, tagsOf}
+use Rattle.memory_range.specs.List.{rangesOf}
 use Rattle.memory_range.specs.Valid.{validRange, allValid, ascend}
 use Rattle.host_params.specs.declared.IsolationType.{IsolationType}
-use Rattle.host_params.specs.declared.MemoryEntry.{MemoryEntry}
 use Rattle.vtl2_ram.specs.declared.ram.Vtl2Ram.{Vtl2Ram}
 use Rattle.vtl2_ram.specs.Ram.{ramAs}
 use Rattle.vtl2_ram.specs.Choice.{Choice, refused, chosen, entriesOf}
-use Rattle.vtl2_ram.specs.Map.{mapOf, entriesIn, mapRanges}
+use Rattle.host_map.specs.Map.{mapRanges}
 use Rattle.vtl2_ram.specs.Select.{choice}
 use Rattle.vtl2_ram.specs.Laws.Select.{chosen-in-order}
 use Rattle.boot_ram.specs.Verdict.{maxChosen}
@@ -25,24 +23,22 @@ use Rattle.memory.specs.declared.builder.AddressSpaceManagerBuilder.{AddressSpa
 use Rattle.memory.specs.Builder.{singlesValid}
 use Rattle.plan_record.specs.declared.record.Get.{Get}
 use Rattle.plan_record.specs.declared.record.Pool.{Pool}
-use Rattle.plan_record.specs.declared.record.Record.{Record}
 use Rattle.plan_text.specs.declared.text.TextCheck.the-variants.{Accepted, Refused}
 use Rattle.plan_text.specs.Order.{inOrder}
-use Rattle.plan_text.specs.Text.{textCheck, recordsOf}
+use Rattle.plan_text.specs.Text.{textCheck}
 use Rattle.plan_text.specs.Laws.Text.{accepted}
 use Rattle.plan_input.specs.Record.{recordsAt, behindOne}
 use Rattle.plan_input.specs.Range.{startsIn, endsIn}
-use Rattle.plan_input.specs.Entry.{flagsIn}
 use Rattle.plan_input.specs.Room.{mapRoom, importRoom, configRoom, poolRoom}
 use Rattle.plan_input.specs.Once.{poolFirst}
 use Rattle.plan_input.specs.declared.selection.SelectionRead.{SelectionRead}
 use Rattle.plan_input.specs.Selection.{SelectionIn, selectionIn, SelectionHeld}
 use Rattle.plan_input.specs.Build.{BuildIn, buildIn}
-use Rattle.plan_input.specs.Input.{inputOf, inputRead, getsFirst, textRanges}
+use Rattle.plan_input.specs.Input.{inputRead, getsFirst}
 use Rattle.plan_input.specs.Laws.Record.{records-accepted}
-use Rattle.plan_input.specs.Laws.Input.{validRead, input-read, valid-read}
+use Rattle.plan_input.specs.Laws.Input.{input-read, valid-read}
 use Rattle.plan_input.specs.Laws.Room.{stored-ranges, stored-map, choice-room, build-room}
-use Rattle.plan.specs.Planner.{Plan, planOf, recordsPlan, rangesRefusal, selectedPlan, afterBuild, afterChoice, unless, choiceOf, Selected}
+use Rattle.plan.specs.Planner.{planOf, recordsPlan, rangesRefusal, selectedPlan, afterBuild, afterChoice, unless, choiceOf, Selected}
 use Rattle.plan.specs.Planner as plan
 
 -- a test that is turned round
@@ -75,35 +71,6 @@ ranges-lent room rs {n} {count} {ss} {es} s e c h =
       starts = omega arith;
       ends = omega arith;
       ranges = rw (s, e) (stored-ranges room rs (zeros room) (zeros room) n z z (h ∙ ap (λ (k : ℕ). min k room) c));
-    }
-
--- the same of the map, in four arrays
-pub record MapLent (room : ℕ) (map : List MemoryEntry) (n : ℕ) (ss es ns : List ℕ) (ls : List Bool) : Type 0 where
-  pub starts : n ≤ length ss
-  pub ends : n ≤ length es
-  pub nodes : n ≤ length ns
-  pub flags : n ≤ length ls
-  pub entries : mapOf (take n ss) (take n es) (take n ns) (take n ls) ≡ take room map
-
-pub map-lent : (room : ℕ) (map : List MemoryEntry) {n count : ℕ} {ss es ns : List ℕ} {ls : List Bool} → ss ≡ sets (zeros room) 0 (startsOf (entriesIn map))
-    → es ≡ sets (zeros room) 0 (endsOf (entriesIn map)) → ns ≡ sets (zeros room) 0 (tagsOf (entriesIn map))
-    → ls ≡ sets (replicate room false) 0 (flagsIn map) → count ≡ length map → n ≡ min count room → MapLent room map n ss es ns ls
-map-lent room map {n} {count} {ss} {es} {ns} {ls} s e t l c h =
-    let few : n ≤ room = omega (arith, h) in
-    let z : length (zeros room) ≡ room = length-replicate {A = ℕ} room 0 in
-    let f : length (replicate room false) ≡ room = length-replicate room false in
-    let hs : length ss ≡ room = ap length s ∙ length-sets (zeros room) 0 (startsOf (entriesIn map)) ∙ z in
-    let he : length es ≡ room = ap length e ∙ length-sets (zeros room) 0 (endsOf (entriesIn map)) ∙ z in
-    let ht : length ns ≡ room = ap length t ∙ length-sets (zeros room) 0 (tagsOf (entriesIn map)) ∙ z in
-    let hl : length ls ≡ room = ap length l ∙ length-sets (replicate room false) 0 (flagsIn map) ∙ f in
-    record {
-      starts = omega arith;
-      ends = omega arith;
-      nodes = omega arith;
-      flags = omega arith;
-      entries =
-          rw (s, e, t, l)
-          (stored-map room map (zeros room) (zeros room) (zeros room) (replicate room false) n z z z f (h ∙ ap (λ (k : ℕ). min k room) c));
     }
 
 -- a selection comes to at most 64 entries
@@ -158,11 +125,13 @@ module _ (text : List ℕ) (a : textCheck text ≡ Accepted) where
   text-invalid e = plan-rows ∙ rw e
 
   -- what selection comes to, by what the code holds
-  pub selection-same : (read : SelectionRead) {map : List MemoryEntry} {imports : List MemoryRange} {ram : Vtl2Ram} → SelectionHeld text selection read
-      → map ≡ take mapRoom (selection .map) → imports ≡ take importRoom (selection .imports)
-      → ram ≡ ramAs (choice (read .shape .mode) (read .shape .isolation) (read .shape .«memory_size») (read .file) map imports)
+  pub selection-same : (read : SelectionRead) {imports : List MemoryRange} {ram : Vtl2Ram} → SelectionHeld text selection read
+      → imports ≡ take importRoom (selection .imports)
+      → ram
+      ≡ ramAs
+      (choice (read .shape .mode) (read .shape .isolation) (read .shape .«memory_size») (read .file) (take (read .«map_count») (read .map)) imports)
       → ram ≡ ramAs (choiceOf selection)
-  selection-same read h m i e = rw (h .shape, h .file, m, i) at e
+  selection-same read h i e = rw (h .shape, h .file, stored-map (selection .map) (h .map) (h .map-count), i) at e
 
   selected-few : length (entriesOf (choiceOf selection)) ≤ maxChosen
   selected-few =

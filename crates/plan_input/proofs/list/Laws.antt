@@ -45,6 +45,10 @@ module _ (k : ℕ) where
 pub record Stores {A : Type 0} (l₀ vs₀ : List A) (k : ℕ) (l vs : List A) : Type 0 where
   pub all : sets l k vs ≡ sets l₀ 0 vs₀
 
+-- none is stored yet
+pub stores-start : {A : Type 0} {l₀ vs : List A} {l : List A} → l ≡ l₀ → Stores l₀ vs 0 l vs
+stores-start e = rw e record { all = refl }
+
 module _ {A : Type 0} {l₀ vs₀ : List A} {k : ℕ} {l : List A} where
   -- the next one is stored
   pub stores-next : {l' vs : List A} {v : A} → l' ≡ set l k v → Stores l₀ vs₀ k l (v ∷ vs) → Stores l₀ vs₀ (k + 1) l' vs

@@ -11,7 +11,7 @@ use Rattle.memory_range.specs.declared.range.MemoryRange.{MemoryRange}
 use Rattle.memory_range.specs.Range.{range}
 use Rattle.memory_range.specs.Valid.{validRange, allValid}
 use Rattle.host_params.specs.declared.MemoryEntry.{MemoryEntry}
-use Rattle.vtl2_ram.specs.Map.{mapRanges}
+use Rattle.host_map.specs.Map.{mapRanges}
 use Rattle.memory.specs.declared.builder.OptionRange.{OptionRange}
 use Rattle.memory.specs.declared.builder.OptionRange.the-variants.{Some, None}
 use Rattle.memory.specs.Builder.{optionValid, singlesValid}

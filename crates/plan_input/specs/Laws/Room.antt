@@ -2,27 +2,26 @@
 -- has one place more than its row allows, so a list that is too long is refused either way.
 use Prim.Native.Nat.{ℕ, suc, zero, _<_, min}
 use mathlib.Core.Path.{_≡_, refl, sym, ap, _∙_}
-use mathlib.Core.Bool.{Bool, true, false, and-eq-true-iff, and-false, true≢false}
+use mathlib.Core.Bool.{true, false, and-eq-true-iff, and-false, true≢false}
 use mathlib.Core.List.{List, [], _∷_}
 use mathlib.Core.Option.{Option, none, some}
 use native.Mathlib.Decide.{decLe}
 use native.Mathlib.Omega.{arith}
 use borrow.Author.Tests.{lt-leb, lt-ltb}
 use lib.Dec.{leb}
-use lib.ListN.{length, take, set, length-take}
+use lib.ListN.{length, take, set, replicate, length-take, length-replicate}
 use lib.Seq.{sets, take-all, take-nil}
 use Rattle.refusal.specs.Number.{mapCount}
 use Rattle.memory_range.specs.declared.range.MemoryRange.{MemoryRange}
 use Rattle.memory_range.specs.declared.range.TaggedRange.{TaggedRange}
-use Rattle.memory_range.specs.List.{rangesOf, rangesIn, startsOf, endsOf, tagsOf}
+use Rattle.memory_range.specs.List.{rangesOf, rangesIn}
 use Rattle.memory_range.specs.Valid.{validRange, allValid, ascendFrom, ascend}
 use Rattle.host_params.specs.declared.IsolationType.{IsolationType}
 use Rattle.host_params.specs.declared.MemoryAllocationMode.{MemoryAllocationMode}
 use Rattle.host_params.specs.declared.MemoryEntry.{MemoryEntry}
-use Rattle.host_params.specs.declared.MemoryMapEntryType.{MemoryMapEntryType}
-use Rattle.host_params.specs.declared.MemoryMapEntryType.the-variants.{Vtl2Protectable, Memory}
 use Rattle.host_params.specs.declared.OptionU64.{OptionU64}
-use Rattle.vtl2_ram.specs.Map.{mapOf, entriesIn, mapRanges, isProtectable, typeOf}
+use Rattle.host_map.specs.Map.{mapRanges}
+use Rattle.host_map.specs.Entries.{noEntry}
 use Rattle.vtl2_ram.specs.Rows.{countsGood}
 use Rattle.vtl2_ram.specs.Choice.{refused}
 use Rattle.vtl2_ram.specs.Select.{choice}
@@ -36,8 +35,7 @@ use Rattle.memory.specs.Laws.Build.{pools-many}
 use Rattle.memory.specs.Laws.Overlap.{used-refused-none}
 use Rattle.memory.specs.Laws.Rows.{rows-passed}
 use Rattle.plan_input.specs.Range.{startsIn, endsIn}
-use Rattle.plan_input.specs.Entry.{flagsIn}
-use Rattle.plan_input.specs.Room.{mapRoom, importRoom, configRoom, poolRoom}
+use Rattle.plan_input.specs.Room.{mapRoom, noMap, importRoom, configRoom, poolRoom}
 
 module _ {A : Type 0} where
   -- nothing is stored in an empty array, and what is stored behind the first place leaves that as it is
@@ -52,53 +50,45 @@ module _ {A : Type 0} where
 -- a field of the values of a list, stored from an array's first place on: it holds those that it has room for
 module _ {A B : Type 0} (field : List A → List B) (f : A → B) (empty : field [] ≡ [])
     (more : (x : A) (xs : List A) → field (x ∷ xs) ≡ f x ∷ field xs) where
-  stored : (l : List B) (xs : List A) (n : ℕ) → n ≡ min (length xs) (length l) → take n (sets l 0 (field xs)) ≡ field (take (length l) xs)
+  stored : (l : List B) (xs : List A) (n : ℕ) → min n (length l) ≡ min (length xs) (length l)
+      → take n (sets l 0 (field xs)) ≡ field (take (length l) xs)
   stored [] xs n e = rw (sets-none 0 (field xs), take-nil n, empty)
   stored (y ∷ l) [] zero e = sym empty
   stored (y ∷ l) [] (suc n) e = absurd (omega arith)
   stored (y ∷ l) (x ∷ xs) zero e = absurd (omega arith)
   stored (y ∷ l) (x ∷ xs) (suc n) e = rw (more x xs, sets-behind (f x) l 0 (field xs), stored l xs n (omega arith), more x (take (length l) xs))
 
-  stored-in : {room : ℕ} (l : List B) (xs : List A) (n : ℕ) → length l ≡ room → n ≡ min (length xs) room
+  stored-in : {room : ℕ} (l : List B) (xs : List A) (n : ℕ) → length l ≡ room → min n room ≡ min (length xs) room
       → take n (sets l 0 (field xs)) ≡ field (take room xs)
   stored-in l xs n h e = rw h at (stored l xs n (omega arith))
 
--- the fields of ranges, and of the map's entries, make them again
+-- the starts and ends of ranges make them again
 ranges-again : (rs : List MemoryRange) → rangesOf (startsIn rs) (endsIn rs) ≡ rs
 ranges-again [] = refl
 ranges-again (r ∷ rs) = rw (ranges-again rs)
 
-type-again : (t : MemoryMapEntryType) → typeOf (isProtectable t) ≡ t
-type-again Vtl2Protectable = refl
-type-again Memory = refl
-
-map-again : (m : List MemoryEntry) → mapOf (startsOf (entriesIn m)) (endsOf (entriesIn m)) (tagsOf (entriesIn m)) (flagsIn m) ≡ m
-map-again [] = refl
-map-again (e ∷ es) = rw (map-again es, type-again (e .«mem_type»))
-
--- so ranges that are stored in two arrays are found again, as many as there is room for; and the map's entries in four
+-- so ranges that are stored in two arrays are found again, as many as there is room for
 pub stored-ranges : (room : ℕ) (rs : List MemoryRange) (ss es : List ℕ) (n : ℕ) → length ss ≡ room → length es ≡ room
     → n ≡ min (length rs) room → rangesOf (take n (sets ss 0 (startsIn rs))) (take n (sets es 0 (endsIn rs))) ≡ take room rs
 stored-ranges room rs ss es n s e c =
+    let m : min n room ≡ min (length rs) room = omega arith in
     rw (
-      stored-in startsIn (λ r. r .start) refl (λ x xs. refl) ss rs n s c,
-      stored-in endsIn (λ r. r .end) refl (λ x xs. refl) es rs n e c,
+      stored-in startsIn (λ r. r .start) refl (λ x xs. refl) ss rs n s m,
+      stored-in endsIn (λ r. r .end) refl (λ x xs. refl) es rs n e m,
     )
     (ranges-again (take room rs))
 
-pub stored-map : (room : ℕ) (m : List MemoryEntry) (ss es ns : List ℕ) (fs : List Bool) (n : ℕ)
-    → length ss ≡ room → length es ≡ room → length ns ≡ room → length fs ≡ room → n ≡ min (length m) room
-    → mapOf (take n (sets ss 0 (startsOf (entriesIn m)))) (take n (sets es 0 (endsOf (entriesIn m))))
-    (take n (sets ns 0 (tagsOf (entriesIn m)))) (take n (sets fs 0 (flagsIn m)))
-    ≡ take room m
-stored-map room m ss es ns fs n s e t f c =
-    rw (
-      stored-in (λ es. startsOf (entriesIn es)) (λ e. e .range .start) refl (λ x xs. refl) ss m n s c,
-      stored-in (λ es. endsOf (entriesIn es)) (λ e. e .range .end) refl (λ x xs. refl) es m n e c,
-      stored-in (λ es. tagsOf (entriesIn es)) (λ e. e .vnode) refl (λ x xs. refl) ns m n t c,
-      stored-in flagsIn (λ e. isProtectable (e .«mem_type»)) refl (λ x xs. refl) fs m n f c,
-    )
-    (map-again (take room m))
+-- the room for the map: so many places that hold no entry; and what of the map is found in it
+pub no-map : {e : MemoryEntry} → e ≡ noEntry → replicate mapRoom e ≡ noMap
+unfolding noMap
+no-map h = ap (replicate mapRoom) h
+
+pub no-map-length : length noMap ≡ mapRoom
+unfolding noMap
+no-map-length = length-replicate mapRoom noEntry
+
+pub stored-map : (m : List MemoryEntry) {held : List MemoryEntry} {n : ℕ} → held ≡ sets noMap 0 m → n ≡ length m → take n held ≡ take mapRoom m
+stored-map m {n = n} h e = rw h (stored-in (λ es. es) (λ x. x) refl (λ x xs. refl) noMap m n no-map-length (ap (λ (k : ℕ). min k mapRoom) e))
 
 -- the first of a list of ranges are valid, and ascend, where all do
 valid-take : (n : ℕ) (rs : List MemoryRange) → allValid rs ≡ true → allValid (take n rs) ≡ true

@@ -19,7 +19,7 @@ use Rattle.boot_ram.specs.Held.{bytesOf}
 use Rattle.boot_ram.specs.Verdict.{maxChosen}
 use Rattle.vtl2_ram.specs.Choice.{Choice, refused, chosen}
 use Rattle.vtl2_ram.specs.Host.{isHardwareIsolated, isolatedEnd, isolatedChoice, protectableChoice, hostChoice}
-use Rattle.vtl2_ram.specs.Map.{mapRanges, protectableIn}
+use Rattle.host_map.specs.Map.{mapRanges, protectableIn}
 use Rattle.vtl2_ram.specs.Laws.Map.{protectable-valid, protectable-ordered}
 
 -- the bytes of valid entries are pages

@@ -8,7 +8,7 @@ use Rattle.memory.specs.Builder.{singlesValid}
 use Rattle.plan_input.specs.Record.{recordsAt}
 use Rattle.plan_input.specs.Range.{orEmpty}
 use Rattle.plan_input.specs.Build.{buildIn}
-use Rattle.plan_input.specs.Laws.Rows.{valid-by, valid-three}
+use Rattle.host_map.specs.Laws.Rows.{valid-by, valid-three}
 use Rattle.plan_input.proofs.build.read_build.Statement.{statement}
 use Rattle.plan_input.proofs.build.read_build.Tie as tie
 

@@ -1,40 +1,40 @@
 -- `list::read_map` meets its contract. The loop's invariant: the whole answer is what the records from `next` on come to
--- with the count, the check and the arrays as they are. The measure is how many records are left.
+-- with the count, the check and the array as they are. The measure is how many records are left.
 use Prim.Native.Nat.{ℕ, _+_}
-use mathlib.Core.Path.{_≡_, refl, ap, sym, _∙_}
+use mathlib.Core.Path.{_≡_, refl, sym, _∙_}
 use mathlib.Core.List.{List, _∷_}
+use mathlib.Core.Logic.{⊎-elim}
 use native.Mathlib.Omega.{arith}
 use borrow.Author.Needs.{needs}
 use lib.ListN.{length, set}
+use lib.Seq.{set-out}
 use Rattle.plan_record.specs.declared.record.Record.{Record}
 use Rattle.plan_input.specs.Record.{recordsAt}
-use Rattle.memory_range.specs.List.{startsOf, endsOf, tagsOf}
-use Rattle.vtl2_ram.specs.Map.{entriesIn, mapRanges}
+use Rattle.host_map.specs.Map.{mapRanges}
+use Rattle.host_map.specs.Rows.{checkStart, checkedAll}
 use Rattle.plan_input.specs.Word.{wordsFirst, behindWords}
-use Rattle.plan_input.specs.Entry.{entryIn, entriesFirst, flagsIn}
-use Rattle.plan_input.specs.Rows.{checkStart, checkedAll}
+use Rattle.plan_input.specs.Entry.{entryIn, entriesFirst}
+use Rattle.plan_input.specs.Room.{noMap}
 use Rattle.plan_input.specs.Laws.Record.{records-few}
-use Rattle.plan_input.proofs.list.Laws.{words-next, words-none, words-few, Stores, stores-next, stores-none, stores-length}
+use Rattle.plan_input.specs.Laws.Room.{no-map, no-map-length}
+use Rattle.plan_input.proofs.list.Laws.{words-next, words-none, words-few, Stores, stores-start, stores-next, stores-none, stores-length}
 use Rattle.plan_input.proofs.list.read_map.Statement.{statement}
 use Rattle.plan_input.proofs.list.read_map.Tie as tie
 
 abbrev Inv-loop : tie.InvT-loop
-Inv-loop text at starts₀ ends₀ nodes₀ protectable₀ count₀ check₀ next₀ starts ends nodes protectable count check next =
+Inv-loop text at entries₀ count₀ check₀ next₀ entries count check next =
     let all = entriesFirst (recordsAt text at) in
     let left = entriesFirst (recordsAt text next) in
     (count + length left ≡ length all)
     × (checkedAll check (mapRanges left) ≡ checkedAll checkStart (mapRanges all))
     × (behindWords 2 (recordsAt text next) ≡ behindWords 2 (recordsAt text at))
-    × Stores starts₀ (startsOf (entriesIn all)) count starts (startsOf (entriesIn left))
-    × Stores ends₀ (endsOf (entriesIn all)) count ends (endsOf (entriesIn left))
-    × Stores nodes₀ (tagsOf (entriesIn all)) count nodes (tagsOf (entriesIn left))
-    × Stores protectable₀ (flagsIn all) count protectable (flagsIn left)
+    × Stores noMap all count entries left
 
 abbrev μ-loop : tie.MeasureT-loop
-μ-loop text at starts₀ ends₀ nodes₀ protectable₀ count₀ check₀ next₀ starts ends nodes protectable count check next = length (recordsAt text next)
+μ-loop text at entries₀ count₀ check₀ next₀ entries count check next = length (recordsAt text next)
 
 abbrev start : tie.At-loop Inv-loop μ-loop → tie.Start Inv-loop μ-loop
-start l = l .before .before .before .before .before .before .before
+start l = l .before .before .before .before
 
 -- the records from a place on
 abbrev records : tie.At-loop Inv-loop μ-loop → ℕ → List Record
@@ -52,17 +52,18 @@ turn g =
     let l = q .before in
     words-next 2 (records l (l .loop .next)) (sym (q .read-word .ensures .0) ∙ g .«record» .given .1) (q .read-word .ensures .1)
 
--- the place of the entry, before it is stored
-abbrev entry : tie.After-put-range Inv-loop μ-loop → tie.After-entry-in Inv-loop μ-loop
-entry p = p .before .before .before .before
-
--- the place of the stores of its range and its node, and of its flag
-abbrev put : tie.After-put-flag Inv-loop μ-loop → tie.After-put-range Inv-loop μ-loop
-put f = f .before .before .before .before .before .before .before .before .before
+-- the entry is stored, or there is no room left
+stored : (j : tie.Joined1 Inv-loop μ-loop)
+    → let e = j .before in
+    let l = e .before .before .before .before .before in
+    j .if1 .entries ≡ set (l .loop .entries) (l .loop .count) (e .entry-in .result)
+stored j =
+    let l = j .before .before .before .before .before .before in
+    let n = stores-length (l .loop .inv .3) ∙ no-map-length in
+    ⊎-elim (λ w. w .1) (λ w. w .1 ∙ sym (set-out _ _ _ (omega arith))) (j .if1 .came)
 
 loop-holds : tie.Need-loop-holds Inv-loop μ-loop
-loop-holds c =
-    (omega arith, rw (c .start .ensures), refl, record { all = refl }, record { all = refl }, record { all = refl }, record { all = refl })
+loop-holds c = (omega arith, rw (c .start .ensures), refl, stores-start (no-map (c .before .no-entry .ensures)))
 
 returns : tie.Need-returns Inv-loop μ-loop
 returns c =
@@ -70,11 +71,11 @@ returns c =
     let l = q .before in
     let e = words-none 2 (records l (l .loop .next)) (sym (q .read-word .ensures .0) ∙ c .enum-told .given .1) in
     let i = rw (e .0, e .1) at (l .loop .inv) in
-    (omega (arith, i .0), (i .1, (i .2, (stores-none (i .3), (stores-none (i .4), (stores-none (i .5), stores-none (i .6)))))))
+    (omega (arith, i .0), (i .1, (i .2, stores-none (i .3))))
 
 add-count : tie.Need-add-count Inv-loop μ-loop
 add-count c =
-    let g = entry (put (c .before .before .before)) .before .before in
+    let g = c .before .before .before .before in
     let l = g .before .before .before in
     let a = start l .args in
     omega (
@@ -86,25 +87,16 @@ add-count c =
     )
 
 loop-less : tie.Need-loop-less Inv-loop μ-loop
-loop-less c = omega (arith, turn (entry (put (c .before .before .before)) .before .before) .2)
+loop-less c = omega (arith, turn (c .before .before .before .before) .2)
 
 loop-again : tie.Need-loop-again Inv-loop μ-loop
 loop-again c =
-    let f = c .before .before .before in
-    let p = put f in
-    let g = entry p .before .before in
+    let j = c .before in
+    let g = j .before .before .before in
     let l = g .before .before .before in
     let t = turn g in
-    let i = rw (t .0, t .1, ← entry p .entry-in .ensures) at (l .loop .inv) in
-    let e = p .put-range .ensures in (
-      omega (arith, i .0),
-      rw (c .with .ensures) (i .1),
-      i .2,
-      stores-next (e .0) (i .3),
-      stores-next (e .1 .0) (i .4),
-      stores-next (e .1 .1) (i .5),
-      stores-next (f .put-flag .ensures ∙ ap (set (l .loop .protectable) (l .loop .count)) (f .before .is-protectable .ensures)) (i .6),
-    )
+    let i = rw (t .0, t .1, ← j .before .entry-in .ensures) at (l .loop .inv) in
+    (omega (arith, i .0), rw (c .with .ensures) (i .1), i .2, stores-next (stored j) (i .3))
 
 pub read-map-spec : {M : Type 1} → statement M
 read-map-spec =
@@ -113,19 +105,15 @@ read-map-spec =
     Inv-loop
     μ-loop
     (λ c κs. search needs)
+    (λ c κs. search needs)
     loop-holds
     (λ c κs. search needs)
     (λ c. search needs)
-    (λ c. stores-length (c .before .before .before .loop .inv .3))
-    (λ c. stores-length (c .before .before .before .loop .inv .4))
-    (λ c. stores-length (c .before .before .before .loop .inv .5))
-    (λ c. stores-length (c .before .before .before .loop .inv .6))
     returns
     (λ c. search needs)
     (λ c κs. search needs)
-    (λ c κs. search needs)
-    (λ c κs. search needs)
-    (λ c κs. search needs)
+    (λ c. search needs)
+    (λ c. search needs)
     (λ c κs. search needs)
     add-count
     loop-less

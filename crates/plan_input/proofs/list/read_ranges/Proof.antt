@@ -10,7 +10,7 @@ use Rattle.plan_record.specs.declared.record.Record.{Record}
 use Rattle.plan_input.specs.Record.{recordsAt}
 use Rattle.plan_input.specs.Word.{wordsFirst, behindWords}
 use Rattle.plan_input.specs.Range.{rangeIn, rangesFirst, startsIn, endsIn}
-use Rattle.plan_input.specs.Rows.{checkStart, checkedAll}
+use Rattle.host_map.specs.Rows.{checkStart, checkedAll}
 use Rattle.plan_input.specs.Laws.Record.{records-few}
 use Rattle.plan_input.proofs.list.Laws.{words-next, words-none, words-few, Stores, stores-next, stores-none, stores-length}
 use Rattle.plan_input.proofs.list.read_ranges.Statement.{statement}

@@ -3,11 +3,11 @@ use mathlib.Core.Path.{ap, ap₂, _∙_}
 use mathlib.Core.Bool.{_&&_}
 use borrow.Author.Needs.{needs}
 use Rattle.memory_range.specs.Valid.{validRange}
-use Rattle.vtl2_ram.specs.Map.{mapRanges}
+use Rattle.host_map.specs.Map.{mapRanges}
 use Rattle.plan_input.specs.Record.{recordsAt}
 use Rattle.plan_input.specs.Range.{orEmpty}
 use Rattle.plan_input.specs.Selection.{selectionIn}
-use Rattle.plan_input.specs.Laws.Rows.{valid-by, ascending-by, valid-three}
+use Rattle.host_map.specs.Laws.Rows.{valid-by, ascending-by, valid-three}
 use Rattle.plan_input.proofs.selection.read_selection.Statement.{statement}
 use Rattle.plan_input.proofs.selection.read_selection.Tie as tie
 
@@ -17,8 +17,8 @@ returns c =
     let v = c .before .before .before .before in
     let o = v .before in
     let l = o .before .before in
-    let m = l .before .before .before in
-    let f = m .before .before .before .before .before in
+    let m = l .before .before .before .before in
+    let f = m .before in
     let s = f .before in
     let given = selectionIn (recordsAt (s .before .before .args .text .now) 0) in
     let shape = s .read-shape .ensures in
@@ -30,13 +30,14 @@ returns c =
       record {
         shape = shape .0;
         file = file;
+        map = map .1 .1 .1;
         map-count = map .0;
         import-count = imports .0;
         valid = valid-three valid (valid-by (mapRanges (given .map)) (map .1 .0)) (valid-by (given .imports) (imports .1 .0));
         ascending = ap₂ _&&_ (ascending-by (mapRanges (given .map)) (map .1 .0)) (ascending-by (given .imports) (imports .1 .0));
         next = imports .1 .1 .0;
       },
-      (map .1 .1 .1 .0, (map .1 .1 .1 .1 .0, (map .1 .1 .1 .1 .1 .0, (map .1 .1 .1 .1 .1 .1, imports .1 .1 .1)))),
+      imports .1 .1 .1,
     )
 
 pub read-selection-spec : {M : Type 1} → statement M

@@ -1,4 +1,4 @@
--- Row 7 counts the nodes; where it passes they are 0, 1 and so on, so that the parts are asked for the same nodes.
+-- Row 7 is the count of the nodes; where it passes they are 0, 1 and so on, so that the parts are asked for the same nodes.
 use mathlib.Core.Path.{_≡_, ap, sym, _∙_}
 use mathlib.Core.List.{List}
 use native.Mathlib.Omega.{arith}
@@ -14,9 +14,6 @@ use Rattle.vtl2_ram.specs.Laws.Boot.{choice-nodes, choice-share, choice-
 use Rattle.vtl2_ram.proofs.boot.allocate_vtl2_ram.Statement.{statement}
 use Rattle.vtl2_ram.proofs.boot.allocate_vtl2_ram.Tie as tie
 
-abbrev entry : tie.After-numa-node-count → tie.Start
-entry m = m .before .before .before .before .before .before
-
 abbrev map : tie.Start → List TaggedRange
 map s = taggedOf (s .args .map-starts .now) (s .args .map-ends .now) (s .args .map-nodes .now)
 
@@ -24,34 +21,35 @@ abbrev imports : tie.Start → List MemoryRange
 imports s = rangesOf (s .args .import-starts .now) (s .args .import-ends .now)
 
 -- the nodes of the map's entries are those that were counted
-told : (m : tie.After-numa-node-count) → nodesCounted (tagsOf (map (entry m))) ≡ m .numa-node-count .result
-told m = ap nodesCounted (entry m .pre .0) ∙ sym (m .numa-node-count .ensures)
+told : (s : tie.Start) → nodesCounted (tagsOf (map s)) ≡ s .args .numa-node-count
+told s = ap nodesCounted (s .pre .1 .0) ∙ sym (s .pre .0)
 
-counted : (c : tie.After-count) → nodesCounted (tagsOf (map (entry (c .before .before)))) ≡ count.Count (c .count .given .0 .0)
-counted c = told (c .before .before) ∙ c .count .given .1
+counted : (c : tie.After-numa-node-count2)
+    → nodesCounted (tagsOf (map (c .before .before .before .before .before .before .before))) ≡ count.Count (c .numa-node-count2 .given .0 .0)
+counted c = told (c .before .before .before .before .before .before .before) ∙ c .numa-node-count2 .given .1
 
 returns : tie.Need-returns
 returns c =
     let n = c .before .before in
-    let s = entry (n .before .before) in
+    let s = n .before .before .before .before .before .before .before in
     let a = s .args in
     c .refused-ram .ensures
-    ∙ sym (ap ramAs (choice-nodes (a .isolation) (a .ram-size) (a .file) (map s) (imports s) (told (n .before .before) ∙ n .number .given .1)))
+    ∙ sym (ap ramAs (choice-nodes (a .isolation) (a .ram-size) (a .file) (map s) (imports s) (told s ∙ n .numa-node-count .given .1)))
 
 returns-2 : tie.Need-returns-2
 returns-2 c =
     let w = c .before .before .before .before in
     let k = w .before .before in
-    let s = entry (k .before .before) in
+    let s = k .before .before .before .before .before .before .before in
     let a = s .args in
-    let share = sym (w .node-share .ensures) ∙ c .before .before .number2 .given .1 in
+    let share = sym (w .node-share .ensures) ∙ c .before .before .number .given .1 in
     c .refused-ram2 .ensures ∙ sym (ap ramAs (choice-share (a .isolation) (a .ram-size) (a .file) (map s) (imports s) (counted k) share))
 
 returns-3 : tie.Need-returns-3
 returns-3 c =
     let w = c .before .before .before .before in
     let k = w .before .before in
-    let s = entry (k .before .before) in
+    let s = k .before .before .before .before .before .before .before in
     let a = s .args in
     let share = sym (w .node-share .ensures) ∙ c .before .before .share .given .1 in
     c .choose-ram .ensures ∙ sym (ap ramAs (choice-parts (a .isolation) (a .ram-size) (a .file) (map s) (imports s) (counted k) share))
@@ -59,13 +57,12 @@ returns-3 c =
 cast-choose-ram : tie.Need-cast-choose-ram
 cast-choose-ram c =
     let k = c .before .before .before .before .before in
-    omega (arith, nodes-counted (tagsOf (map (entry (k .before .before)))) (counted k) .2)
+    omega (arith, nodes-counted (tagsOf (map (k .before .before .before .before .before .before .before))) (counted k) .2)
 
 pub allocate-vtl2-ram-spec : {M : Type 1} → statement M
 allocate-vtl2-ram-spec =
     tie.close
     (tie.spec
-    (λ c κs. search needs)
     (λ c. search needs)
     (λ c κs. search needs)
     (λ c. search needs)

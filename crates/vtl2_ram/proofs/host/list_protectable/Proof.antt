@@ -5,7 +5,7 @@ use mathlib.Core.Logic.{⊎-elim}
 use native.Mathlib.Omega.{arith}
 use borrow.Author.Needs.{needs}
 use lib.ListN.{length, drop}
-use Rattle.vtl2_ram.specs.Map.{mapOf, protectableIn}
+use Rattle.host_map.specs.Map.{mapOf, protectableIn}
 use Rattle.vtl2_ram.specs.Laws.Map.{past-entries, next-protectable, next-passed}
 use Rattle.vtl2_ram.proofs.host.Laws.{Listing, listing-none, listing-more, listing-all, listing-over}
 use Rattle.vtl2_ram.proofs.host.list_protectable.Statement.{statement}

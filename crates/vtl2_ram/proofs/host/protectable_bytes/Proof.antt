@@ -11,7 +11,7 @@ use Rattle.memory_range.specs.Bytes.{Ordered}
 use Rattle.memory_range.specs.Range.{range}
 use Rattle.host_params.specs.declared.MemoryEntry.{MemoryEntry}
 use Rattle.boot_ram.specs.Held.{bytesOf}
-use Rattle.vtl2_ram.specs.Map.{mapOf, mapRanges, protectableIn}
+use Rattle.host_map.specs.Map.{mapOf, mapRanges, protectableIn}
 use Rattle.vtl2_ram.specs.Laws.Map.{past-entries, next-entry, next-protectable, next-passed}
 use Rattle.vtl2_ram.specs.Laws.Ram.{ordered-sum, ordered-behind}
 use Rattle.vtl2_ram.proofs.host.protectable_bytes.Statement.{statement}

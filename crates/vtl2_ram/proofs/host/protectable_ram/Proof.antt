@@ -8,7 +8,7 @@ use lib.ListN.{length}
 use Rattle.memory_range.specs.declared.range.TaggedRange.{TaggedRange}
 use Rattle.host_params.specs.declared.MemoryEntry.{MemoryEntry}
 use Rattle.boot_ram.specs.Verdict.{maxChosen}
-use Rattle.vtl2_ram.specs.Map.{mapOf, protectableIn}
+use Rattle.host_map.specs.Map.{mapOf, protectableIn}
 use Rattle.vtl2_ram.specs.Laws.Map.{protectable-ordered}
 use Rattle.vtl2_ram.proofs.host.Laws.{counted-protectable, refused-protectable, protectable-file, protectable-all, protectable-entries, protectable-ram-of}
 use Rattle.vtl2_ram.proofs.host.protectable_ram.Statement.{statement}

@@ -1,12 +1,12 @@
--- Laws of rows 4 and 5 as they are kept while ranges are read: after all of a list they are the rows of that list.
+-- Laws of rows 4 and 5 as they are kept while ranges are looked at one by one: after all of a list they are the rows of that list.
 use mathlib.Core.Path.{_≡_, sym, ap, _∙_}
 use mathlib.Core.Bool.{Bool, _&&_, and-true, and-assoc}
 use mathlib.Core.List.{List, [], _∷_}
 use lib.Dec.{leb}
 use Rattle.memory_range.specs.declared.range.MemoryRange.{MemoryRange}
 use Rattle.memory_range.specs.Valid.{validRange, allValid, ascendFrom, ascend}
-use Rattle.plan_input.specs.declared.rows.RangeCheck.{RangeCheck}
-use Rattle.plan_input.specs.Rows.{checkStart, checkedWith, checkedAll}
+use Rattle.host_map.specs.declared.rows.RangeCheck.{RangeCheck}
+use Rattle.host_map.specs.Rows.{checkStart, checkedWith, checkedAll}
 
 valid-from : (k : RangeCheck) (rs : List MemoryRange) → checkedAll k rs .valid ≡ (k .valid && allValid rs)
 valid-from k [] = sym (and-true (k .valid))

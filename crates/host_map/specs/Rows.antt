@@ -1,10 +1,10 @@
--- Rows 4 and 5 of the refusal chart, kept while ranges are read (docs/SPEC.md, section 28).
+-- Rows 4 and 5 of the refusal chart, kept while ranges are looked at one by one (docs/SPEC.md, section 19).
 use mathlib.Core.Bool.{true, _&&_}
 use mathlib.Core.List.{List, [], _∷_}
 use lib.Dec.{leb}
 use Rattle.memory_range.specs.declared.range.MemoryRange.{MemoryRange}
 use Rattle.memory_range.specs.Valid.{validRange}
-use Rattle.plan_input.specs.declared.rows.RangeCheck.{RangeCheck}
+use Rattle.host_map.specs.declared.rows.RangeCheck.{RangeCheck}
 
 -- before the first range, after one more, and after all of a list
 abbrev pub checkStart : RangeCheck

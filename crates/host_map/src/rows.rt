@@ -1,9 +1,9 @@
-// Rows 4 and 5 of a list of ranges, looked at as they are read.
+// Rows 4 and 5 of a list of ranges, looked at range by range.
 ghost use mathlib.Core.Path.{_≡_};
-ghost use Rattle.plan_input.specs.Rows.{checkStart, checkedWith};
+ghost use Rattle.host_map.specs.Rows.{checkStart, checkedWith};
 use memory_range::MemoryRange;
 
-pub(crate) struct RangeCheck {
+pub struct RangeCheck {
     // Whether all ranges so far are valid, and whether they ascend.
     pub valid: bool,
     pub ascending: bool,
@@ -12,7 +12,7 @@ pub(crate) struct RangeCheck {
 }
 
 impl RangeCheck {
-    pub(crate) fn start() -> RangeCheck
+    pub fn start() -> RangeCheck
         ensures { λ r. ⌜ r ≡ checkStart ⌝ }
     {
         RangeCheck {
@@ -22,7 +22,7 @@ impl RangeCheck {
         }
     }
 
-    pub(crate) fn with(self, range: MemoryRange) -> RangeCheck
+    pub fn with(self, range: MemoryRange) -> RangeCheck
         ensures { λ r. ⌜ r ≡ checkedWith self range ⌝ }
     {
         RangeCheck {

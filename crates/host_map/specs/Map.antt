@@ -12,6 +12,10 @@ use Rattle.host_params.specs.declared.MemoryEntry.{MemoryEntry}
 use Rattle.host_params.specs.declared.MemoryMapEntryType.{MemoryMapEntryType}
 use Rattle.host_params.specs.declared.MemoryMapEntryType.the-variants.{Vtl2Protectable, Memory}
 
+-- at most so many entries
+abbrev pub maxEntries : ℕ
+maxEntries = 1024
+
 -- the type of an entry that the host keeps for VTL2, and of any other
 abbrev pub typeOf : Bool → MemoryMapEntryType
 typeOf true = Vtl2Protectable

@@ -1,7 +1,7 @@
 -- `RangeCheck::with` meets its contract: each part is that of the definition.
 use borrow.Author.Needs.{needs}
-use Rattle.plan_input.proofs.rows.RangeCheck.with.Statement.{statement}
-use Rattle.plan_input.proofs.rows.RangeCheck.with.Tie as tie
+use Rattle.host_map.proofs.rows.RangeCheck.with.Statement.{statement}
+use Rattle.host_map.proofs.rows.RangeCheck.with.Tie as tie
 
 returns : tie.Need-returns
 returns c = rw (c .before .before .before .before .is-valid .ensures)

@@ -1,0 +1,3 @@
+-- Laws of the map and of its copy.
+pub mod Rows
+pub mod Entries

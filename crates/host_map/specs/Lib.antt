@@ -1,0 +1,4 @@
+pub mod Map
+pub mod Rows
+pub mod Entries
+pub mod Laws

@@ -1,0 +1,11 @@
+// The host's map as the caller lends it: a list of entries, copied once, with rows 4 and 5 looked at on
+// the way.
+mod entries;
+mod rows;
+
+pub use entries::Entries;
+pub use entries::MAP_ROOM;
+pub use entries::MAX_PARTITION_RAM_RANGES;
+pub use entries::copy_entries;
+pub use entries::no_entry;
+pub use rows::RangeCheck;

@@ -1,0 +1,4 @@
+pub mod Local
+pub mod Number
+pub mod Struct
+pub mod Row

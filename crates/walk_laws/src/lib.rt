@@ -1,0 +1,1 @@
+// Laws only: what proofs by hand share, whatever function they walk.
