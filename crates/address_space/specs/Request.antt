@@ -90,5 +90,5 @@ allocationAs m type (refused n) = refusedWith m n
 allocationAs m type (handed x es) = record { answer = Range x; manager = tableWith m es (poolOf m || isPool type) }
 
 -- a request made of a table: the answer, and the table afterwards
-abbrev pub allocationOf : AddressSpaceManager → OptionU32 → ℕ → AllocationType → AllocationPolicy → OptionU64 → Allocation
-allocationOf m asked len type policy alignment = allocationAs m type (requested asked len type policy alignment (entriesOf m))
+abbrev pub requestedOn : AddressSpaceManager → OptionU32 → ℕ → AllocationType → AllocationPolicy → OptionU64 → Allocation
+requestedOn m asked len type policy alignment = allocationAs m type (requested asked len type policy alignment (entriesOf m))

@@ -1,6 +1,6 @@
 // Requests that change the table in its place.
 ghost use mathlib.Core.Path.{_≡_};
-ghost use Rattle.address_space.specs.Request.{allocationOf};
+ghost use Rattle.address_space.specs.Request.{requestedOn};
 ghost use Rattle.host_params.specs.declared.OptionU64.the-variants as optionU64;
 use crate::request::Allocated;
 use crate::table::AddressSpaceManager;
@@ -19,8 +19,8 @@ impl AddressSpaceManager {
         allocation_policy: AllocationPolicy,
     ) -> Allocated
         ensures { λ r. ⌜
-            (r ≡ allocationOf (now (self .entry)) «required_vnode» len «allocation_type» «allocation_policy» optionU64.None .answer)
-            × (now (self .exit) ≡ allocationOf (now (self .entry)) «required_vnode» len «allocation_type» «allocation_policy» optionU64.None .manager)
+            (r ≡ requestedOn (now (self .entry)) «required_vnode» len «allocation_type» «allocation_policy» optionU64.None .answer)
+            × (now (self .exit) ≡ requestedOn (now (self .entry)) «required_vnode» len «allocation_type» «allocation_policy» optionU64.None .manager)
             ⌝ }
     {
         let table = *self;
@@ -40,8 +40,8 @@ impl AddressSpaceManager {
         alignment: u64,
     ) -> Allocated
         ensures { λ r. ⌜
-            (r ≡ allocationOf (now (self .entry)) «required_vnode» len «allocation_type» «allocation_policy» (optionU64.Some alignment) .answer)
-            × (now (self .exit) ≡ allocationOf (now (self .entry)) «required_vnode» len «allocation_type» «allocation_policy» (optionU64.Some alignment) .manager)
+            (r ≡ requestedOn (now (self .entry)) «required_vnode» len «allocation_type» «allocation_policy» (optionU64.Some alignment) .answer)
+            × (now (self .exit) ≡ requestedOn (now (self .entry)) «required_vnode» len «allocation_type» «allocation_policy» (optionU64.Some alignment) .manager)
             ⌝ }
     {
         let table = *self;

@@ -4,7 +4,7 @@ ghost use Prim.Native.Nat.{_+_, _<_};
 ghost use lib.ListN.{length, take, drop, getD};
 ghost use Rattle.memory_range.specs.Round.{roundUp};
 ghost use Rattle.memory_range.specs.Valid.{pageSize};
-ghost use Rattle.address_space.specs.Request.{alignmentGood, rowsRefusal, lengthAs, placed, allocated, refusedWith, allocationAs, allocationOf};
+ghost use Rattle.address_space.specs.Request.{alignmentGood, rowsRefusal, lengthAs, placed, allocated, refusedWith, allocationAs, requestedOn};
 ghost use Rattle.address_space.specs.Table.{entriesOf, noEntry};
 ghost use Rattle.host_params.specs.declared.OptionU64.the-variants as optionU64;
 use crate::fit::aligned_to;
@@ -161,7 +161,7 @@ impl AddressSpaceManager {
         allocation_type: AllocationType,
         allocation_policy: AllocationPolicy,
     ) -> Allocation
-        ensures { λ r. ⌜ r ≡ allocationOf self «required_vnode» len «allocation_type» «allocation_policy» optionU64.None ⌝ }
+        ensures { λ r. ⌜ r ≡ requestedOn self «required_vnode» len «allocation_type» «allocation_policy» optionU64.None ⌝ }
     {
         match check_rows(len, OptionU64::None) {
             Length::Refused(number) => refused(self, number),
@@ -185,7 +185,7 @@ impl AddressSpaceManager {
         allocation_policy: AllocationPolicy,
         alignment: u64,
     ) -> Allocation
-        ensures { λ r. ⌜ r ≡ allocationOf self «required_vnode» len «allocation_type» «allocation_policy» (optionU64.Some alignment) ⌝ }
+        ensures { λ r. ⌜ r ≡ requestedOn self «required_vnode» len «allocation_type» «allocation_policy» (optionU64.Some alignment) ⌝ }
     {
         match check_rows(len, OptionU64::Some(alignment)) {
             Length::Refused(number) => refused(self, number),

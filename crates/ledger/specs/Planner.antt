@@ -19,7 +19,7 @@ use Rattle.vtl2_ram.specs.Select.{choice}
 use Rattle.address_space.specs.declared.request.Allocation.{Allocation}
 use Rattle.address_space.specs.declared.table.AddressRange.{AddressRange}
 use Rattle.address_space.specs.declared.table.AddressSpaceManager.{AddressSpaceManager}
-use Rattle.address_space.specs.Request.{requested, allocationAs}
+use Rattle.address_space.specs.Request.{requestedOn}
 use Rattle.address_space.specs.Table.{entriesOf, poolOf, emptyTable}
 use Rattle.memory.specs.declared.builder.AddressSpaceManagerBuilder.{AddressSpaceManagerBuilder}
 use Rattle.memory.specs.declared.init.Initialized.{Initialized}
@@ -78,7 +78,7 @@ planner =
       flag = poolOf;
       build = λ b ram configs pools. initOf (initAs emptyTable (hasPool pools) (build b (length (entriesOf emptyTable)) ram configs pools));
       ask = λ r m.
-          allocationOf (allocationAs m (r .type) (requested (r .asked) (r .len) (r .type) (r .policy) (r .alignment) (entriesOf m)));
+          allocationOf (requestedOn m (r .asked) (r .len) (r .type) (r .policy) (r .alignment));
       place = λ pages split m. privatePoolOf (poolAs m (poolPlaced pages split (entriesOf m)));
     }
 

@@ -25,16 +25,8 @@ maxImports = 256
 abbrev pub countsGood : MemoryAllocationMode → ℕ → ℕ → Bool
 countsGood mode m i = leb m maxEntries && (leb i maxImports && not (isBoot mode && eqb m 0))
 
--- row 4 over all ranges, then row 5 over both lists, then row 6
-unfoldable pub rowsRefusal : MemoryAllocationMode → MemoryRange → List MemoryRange → List MemoryRange → Option ℕ
-rowsRefusal mode file map imports =
-    downward
-    (refusedIf (not (validRange file && (allValid map && allValid imports))) rangeInvalid
-    ∷ refusedIf (not (ascend map && ascend imports)) rangesNotAscending
-    ∷ refusedIf (not (countsGood mode (length map) (length imports))) mapCount
-    ∷ [])
-
--- the same by what is known of a map: whether its ranges are valid, whether they ascend, and how many there are
+-- row 4 over all ranges, then row 5 over both lists, then row 6, by what is known of the map: whether its ranges are valid,
+-- whether they ascend, and how many there are
 unfoldable pub rowsKnown : MemoryAllocationMode → MemoryRange → Bool → Bool → ℕ → List MemoryRange → Option ℕ
 rowsKnown mode file valid ascending count imports =
     downward
@@ -42,3 +34,7 @@ rowsKnown mode file valid ascending count imports =
     ∷ refusedIf (not (ascending && ascend imports)) rangesNotAscending
     ∷ refusedIf (not (countsGood mode count (length imports))) mapCount
     ∷ [])
+
+-- the rows of a map's ranges
+abbrev pub rowsRefusal : MemoryAllocationMode → MemoryRange → List MemoryRange → List MemoryRange → Option ℕ
+rowsRefusal mode file map imports = rowsKnown mode file (allValid map) (ascend map) (length map) imports

@@ -25,6 +25,7 @@ use Rattle.host_map.specs.Entries.{noEntry}
 use Rattle.vtl2_ram.specs.Rows.{countsGood}
 use Rattle.vtl2_ram.specs.Choice.{refused}
 use Rattle.vtl2_ram.specs.Select.{choice}
+use Rattle.vtl2_ram.specs.Laws.Map.{length-map-ranges}
 use Rattle.vtl2_ram.specs.Laws.Rows.{rows-count}
 use Rattle.memory.specs.declared.builder.AddressSpaceManagerBuilder.{AddressSpaceManagerBuilder}
 use Rattle.memory.specs.Build.{Build, build, filled, unless}
@@ -103,15 +104,11 @@ ascend-take (suc n) a [] v = refl
 ascend-take (suc n) a (r ∷ rs) v =
     let w = and-eq-true-iff (leb a (r .start)) (ascendFrom (r .end) rs) .0 v in rw (w .0) (ascend-take n (r .end) rs (w .1))
 
--- the ranges of the map: of its first entries, and how many there are
+-- the ranges of the first entries of the map
 map-take : (n : ℕ) (m : List MemoryEntry) → mapRanges (take n m) ≡ take n (mapRanges m)
 map-take zero m = refl
 map-take (suc n) [] = refl
 map-take (suc n) (e ∷ es) = rw (map-take n es)
-
-map-length : (m : List MemoryEntry) → length (mapRanges m) ≡ length m
-map-length [] = refl
-map-length (e ∷ es) = ap suc (map-length es)
 
 -- a list that there is room for is taken whole; any other is longer than the room, which what is taken fills
 data Fits {A : Type 0} (n : ℕ) (xs : List A) : Type 0 where
@@ -135,7 +132,7 @@ module _ (mode : MemoryAllocationMode) (isolation : IsolationType) (size : Optio
   row-six : (m : List MemoryEntry) (is : List MemoryRange) → Good (mapRanges m) → Good is → countsGood mode (length m) (length is) ≡ false
       → choice mode isolation size file m is ≡ refused mapCount
   unfolding choice
-  row-six m is g h c = rw (rows-count mode file (mapRanges m) is (rw (f, g .0, h .0)) (rw (g .1, h .1)) (rw (map-length m) c))
+  row-six m is g h c = rw (rows-count mode file (mapRanges m) is (rw (f, g .0, h .0)) (rw (g .1, h .1)) (rw (length-map-ranges m) c))
 
   map-room : (m : List MemoryEntry) (is : List MemoryRange) → Good (mapRanges m) → Good is
       → choice mode isolation size file (take mapRoom m) is ≡ choice mode isolation size file m is

@@ -1,6 +1,6 @@
 -- Laws of rows 4 to 6: what refuses, row by row, and what holds where no row does.
 use Prim.Native.Nat.{ℕ, _≤_}
-use mathlib.Core.Path.{_≡_, refl}
+use mathlib.Core.Path.{_≡_}
 use mathlib.Core.Bool.{Bool, true, false, _&&_, not, and-assoc, and-eq-true-iff}
 use mathlib.Core.List.{List, [], _∷_}
 use mathlib.Core.Option.{Option, none, some}
@@ -73,16 +73,12 @@ module _ (mode : MemoryAllocationMode) (file : MemoryRange) (valid ascending : B
 
 -- of a map whose ranges are at hand
 module _ (mode : MemoryAllocationMode) (file : MemoryRange) (map imports : List MemoryRange) where
-  pub rows-known : rowsRefusal mode file map imports ≡ rowsKnown mode file (allValid map) (ascend map) (length map) imports
-  unfolding rowsRefusal rowsKnown
-  rows-known = refl
-
   pub rows-passed : rowsRefusal mode file map imports ≡ none
       → (validRange file ≡ true) × (allValid map ≡ true) × (allValid imports ≡ true) × (ascend map ≡ true) × (ascend imports ≡ true)
       × (countsGood mode (length map) (length imports) ≡ true)
-  rows-passed e = known-passed mode file (allValid map) (ascend map) (length map) imports (rw rows-known at e)
+  rows-passed e = known-passed mode file (allValid map) (ascend map) (length map) imports e
 
   pub rows-count : (validRange file && (allValid map && allValid imports)) ≡ true → (ascend map && ascend imports) ≡ true
       → countsGood mode (length map) (length imports) ≡ false → rowsRefusal mode file map imports ≡ some mapCount
-  unfolding rowsRefusal
+  unfolding rowsKnown
   rows-count v o g = rw (v, o, g)

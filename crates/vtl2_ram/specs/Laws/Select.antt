@@ -43,7 +43,7 @@ use Rattle.vtl2_ram.specs.Laws.Claim.{boot-claim}
 use Rattle.vtl2_ram.specs.Laws.Host.{host-chosen}
 use Rattle.vtl2_ram.specs.Laws.Map.{length-map-ranges}
 use Rattle.vtl2_ram.specs.Laws.Parts.{Accepted, parts-accepted, parts-ordered, parts-paged, parts-count}
-use Rattle.vtl2_ram.specs.Laws.Rows.{count-within, rows-known, rows-passed}
+use Rattle.vtl2_ram.specs.Laws.Rows.{count-within, rows-passed}
 
 module _ (isolation : IsolationType) (size : OptionU64) (file : MemoryRange) (map : List MemoryEntry) (imports : List MemoryRange)
     (ram : List TaggedRange) where
@@ -99,7 +99,7 @@ module _ (isolation : IsolationType) (size : OptionU64) (file : MemoryRange) (ma
 pub one-accepted :
     choice Vtl2 isolation.None option.None (range 2097152 2162688) (record { range = range 0 4194304; vnode = 0; «mem_type» = Vtl2Protectable } ∷ []) []
     ≡ chosen (tagged 2097152 2162688 0 ∷ [])
-unfolding choice rowsRefusal bootChoice bootParts besideFile fileWalk afterImports importWalk taking walkFrom
+unfolding choice rowsKnown bootChoice bootParts besideFile fileWalk afterImports importWalk taking walkFrom
 one-accepted = refl
 
 -- a map's copy and its nodes are those of one map
@@ -112,7 +112,7 @@ rows-copied : (mode : MemoryAllocationMode) (file : MemoryRange) (map : List Mem
     rowsKnown mode file (check .valid) (check .ascending) (length map) imports ≡ rowsRefusal mode file (mapRanges map) imports
 rows-copied mode file map imports =
     let rs = mapRanges map in
-    rw (checked-valid rs, checked-ascending rs, ← length-map-ranges map) (sym (rows-known mode file rs imports))
+    rw (checked-valid rs, checked-ascending rs, length-map-ranges map)
 
 -- a map that is too long is refused either way, and any other is copied whole
 pub choice-copied : (mode : MemoryAllocationMode) (isolation : IsolationType) (size : OptionU64) (file : MemoryRange) (map : List MemoryEntry)

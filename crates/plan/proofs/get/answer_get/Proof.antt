@@ -37,7 +37,7 @@ use denote.Exit.{yes}
 use Rattle.walk_laws.specs.Local.{type-at}
 use Rattle.host_params.specs.declared.OptionU64.{OptionU64}
 use Rattle.host_params.specs.declared.OptionU64.the-variants.{Some, None}
-use Rattle.address_space.specs.Request.{allocationOf}
+use Rattle.address_space.specs.Request.{requestedOn}
 use Rattle.address_space.specs.declared.request.Allocated.{Allocated}
 use Rattle.address_space.specs.declared.request.Allocation.{Allocation}
 use Rattle.address_space.specs.declared.table.AddressSpaceManager.{AddressSpaceManager}
@@ -100,7 +100,7 @@ module _ {M : Type 1} (𝓤 : URA M) (H : Heap 𝓤) (A : Atoms 𝓤) (W : Given
 
   -- the allocation at an alignment
   abbrev asked : OptionU64 → Allocation
-  asked a = allocationOf m (g .«required_vnode») (g .len) (g .«allocation_type») (g .«allocation_policy») a
+  asked a = requestedOn m (g .«required_vnode») (g .len) (g .«allocation_type») (g .«allocation_policy») a
 
   -- what each request ensures, at the local's last table k
   abbrev Told : OptionU64 → Allocated → AddressSpaceManager → Type 0

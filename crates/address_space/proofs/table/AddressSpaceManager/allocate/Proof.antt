@@ -32,7 +32,7 @@ use denote.Triple.Clauses.{ensured, lasts}
 use denote.Triple.Table.{entered, cited}
 use denote.Triple.Walked.{says, Stays, walkOf, Walks, ends-at, walked, walk-meets}
 use Rattle.host_params.specs.declared.OptionU64.the-variants.{None}
-use Rattle.address_space.specs.Request.{allocationOf}
+use Rattle.address_space.specs.Request.{requestedOn}
 use Rattle.address_space.specs.declared.request.Allocation.{Allocation}
 use Rattle.address_space.specs.declared.table.AddressSpaceManager.{AddressSpaceManager}
 use Rattle.address_space.proofs.request.Allocation as S
@@ -52,7 +52,7 @@ abbrev stayed : Stays (self.ended .signature .params) (self.ended .kept)
 stayed = stays [] tt tt
 
 abbrev Asks : AddressSpaceManager → Asked → Allocation → Type 0
-Asks m a s = s ≡ allocationOf m (a .vnode) (a .len) (a .type) (a .policy) None
+Asks m a s = s ≡ requestedOn m (a .vnode) (a .len) (a .type) (a .policy) None
 
 -- the contract that the proof cites
 module _ {M : Type 1} (𝓤 : URA M) (H : Heap 𝓤) (A : Atoms 𝓤) (at-mem : Memory → SProp 𝓤) (run : Routine → Fun 𝓤) where

@@ -36,7 +36,7 @@ use denote.Triple.Clauses.{ensured, lasts}
 use denote.Triple.Table.{entered, cited}
 use denote.Triple.Walked.{says, Stays, stay-none, goes-none, walkOf, Walks, ends-at, walked, walk-meets}
 use Rattle.host_params.specs.declared.OptionU64.the-variants.{Some}
-use Rattle.address_space.specs.Request.{allocationOf}
+use Rattle.address_space.specs.Request.{requestedOn}
 use Rattle.address_space.specs.declared.request.Allocation.{Allocation}
 use Rattle.address_space.specs.declared.table.AddressSpaceManager.{AddressSpaceManager}
 use Rattle.address_space.proofs.request.Allocation as S
@@ -56,7 +56,7 @@ abbrev stayed : Stays (self.ended .signature .params) (self.ended .kept)
 stayed = stays (plain (λ _. u64) ∷ []) (yes, tt) (stay-none (λ _. u64) yes, tt)
 
 abbrev Asks : AddressSpaceManager → Asked → ℕ → Allocation → Type 0
-Asks m a n s = s ≡ allocationOf m (a .vnode) (a .len) (a .type) (a .policy) (Some n)
+Asks m a n s = s ≡ requestedOn m (a .vnode) (a .len) (a .type) (a .policy) (Some n)
 
 -- the contract that the proof cites
 module _ {M : Type 1} (𝓤 : URA M) (H : Heap 𝓤) (A : Atoms 𝓤) (at-mem : Memory → SProp 𝓤) (run : Routine → Fun 𝓤) where
