@@ -1,98 +1,108 @@
 //! Runs the original Rust beside the proved planner.
 //!
-//!     oracle stored              the file of stored answers
-//!     oracle beside COUNT SEED   that many random inputs, the original's answers against ours
-//!     oracle time SIDE TURNS     SIDE is original, ours or neither: the same 4,096 inputs, TURNS times
+//!     oracle plan                          the original's output for the plan text on standard input
+//!     oracle table                         the same, and the table after it
+//!     oracle plans COUNT SEED              that many random plan texts, the original against ours
+//!     oracle refusals FOLDER               what the original does on the texts of that folder, and ours
+//!     oracle stored-plans FOLDER COUNT SEED  the file of stored plans
+//!     oracle time-plan SIDE STEP TURNS     a step of the plan text on standard input, TURNS times
+//!     oracle stored                        the file of stored hints and pool sizes
+//!     oracle beside COUNT SEED             that many random hints and pool sizes
+//!     oracle time SIDE TURNS               the same 4,096 hints, TURNS times
 
 include!(concat!(env!("OUT_DIR"), "/original.rs"));
+mod caught;
+#[cfg(feature = "ours")]
+mod generate;
+mod host_params;
+mod original;
+#[cfg(feature = "ours")]
+mod ours;
+mod output;
+mod plan_text;
+#[cfg(feature = "ours")]
+mod plans_beside;
+#[cfg(feature = "ours")]
+mod plans_time;
 mod random;
+mod single_threaded;
 mod sizing;
+#[cfg(feature = "ours")]
+mod sizing_beside;
 mod stored;
+#[cfg(feature = "ours")]
+mod stored_plans;
 
-use random::Random;
-use sizing::{Input, PoolInput, MIB};
-use std::hint::black_box;
+use std::io::{Read, Write};
 use std::process::exit;
-use std::time::Instant;
 
-fn beside(count: u64, seed: u64) {
-    let mut random = Random(seed);
-    let mut differ = 0;
-    for _ in 0..count {
-        let input = Input::random(&mut random);
-        let (original, ours) = (input.original(), input.ours());
-        if original != ours {
-            differ += 1;
-            println!("{input}: original {original:x}, ours {ours:x}");
+fn usage() {
+    eprintln!("usage: oracle plan | table | plans COUNT SEED | refusals FOLDER");
+    eprintln!("       oracle stored-plans FOLDER COUNT SEED");
+    eprintln!(
+        "       oracle time-plan original|no-original|ours|no-ours select|build|pool|gets|plan TURNS"
+    );
+    eprintln!("       oracle stored | beside COUNT SEED | time original|ours|neither TURNS");
+    exit(2);
+}
+
+#[cfg(feature = "ours")]
+fn number(word: &str) -> u64 {
+    word.parse().expect("a number")
+}
+
+fn standard_input() -> Vec<u8> {
+    let mut text = Vec::new();
+    std::io::stdin()
+        .read_to_end(&mut text)
+        .expect("standard input");
+    text
+}
+
+fn plan(with_table: bool) {
+    let written = output::written(original::plan(&standard_input()), with_table);
+    std::io::stdout()
+        .write_all(&written)
+        .expect("standard output");
+}
+
+#[cfg(feature = "ours")]
+fn with_ours(words: &[&str]) {
+    let good = match words {
+        ["plans", count, seed] => plans_beside::beside(number(count), number(seed)),
+        ["refusals", folder] => plans_beside::refusals(folder.as_ref()),
+        ["stored-plans", folder, count, seed] => {
+            stored_plans::write(folder.as_ref(), number(count) as usize, number(seed));
+            true
         }
-        let input = PoolInput::random(&mut random);
-        let (original, ours) = (input.original(), input.ours());
-        if original != ours {
-            differ += 1;
-            println!("{input}: original {original:x?}, ours {ours:x?}");
+        ["time-plan", side, step, turns] => {
+            plans_time::time(side, step, number(turns), &standard_input());
+            true
         }
-    }
-    println!("{count} hints and {count} pool sizes of seed {seed}, {differ} differ");
-    if differ != 0 {
+        ["beside", count, seed] => sizing_beside::beside(number(count), number(seed)),
+        ["time", side, turns] => {
+            sizing_beside::time(side, number(turns));
+            true
+        }
+        _ => return usage(),
+    };
+    if !good {
         exit(1);
     }
 }
 
-/// Random guests: counts from 1 to 1,000 and memory from 64 MiB to 16 GiB, one in four at a row of
-/// either table; three in four looked up in the release table.
-fn guests() -> Vec<Input> {
-    let mut random = Random(1);
-    let mut guest = || {
-        let row = ROWS[random.below(ROWS.len() as u64) as usize];
-        let exact = random.below(4) == 0;
-        Input {
-            debug: random.below(4) == 0,
-            vp_count: if exact { row.0 } else { 1 + random.below(1000) },
-            mem_size: if exact {
-                row.1
-            } else {
-                64 + random.below(16_320)
-            } * MIB,
-        }
-    };
-    (0..4096).map(|_| guest()).collect()
-}
-
-fn time(side: &str, turns: u64) {
-    let answer = match side {
-        "original" => Input::original,
-        "ours" => Input::ours,
-        "neither" => |input: Input| input.mem_size,
-        _ => return usage(),
-    };
-    let guests = guests();
-    let start = Instant::now();
-    let mut sum = 0u64;
-    for _ in 0..turns {
-        for guest in &guests {
-            sum = sum.wrapping_add(answer(black_box(*guest)));
-        }
-    }
-    let calls = turns * guests.len() as u64;
-    let nanoseconds = start.elapsed().as_nanos() as f64 / calls as f64;
-    println!("{side}: {calls} calls, sum {sum:x}, {nanoseconds:.1} ns a call");
-}
-
-fn usage() {
-    eprintln!("usage: oracle stored | beside COUNT SEED | time original|ours|neither TURNS");
-    exit(2);
-}
-
-fn number(words: &[String], i: usize) -> u64 {
-    words[i].parse().expect("a number")
+#[cfg(not(feature = "ours"))]
+fn with_ours(_: &[&str]) {
+    usage();
 }
 
 fn main() {
     let words: Vec<String> = std::env::args().skip(1).collect();
-    match (words.first().map(String::as_str), words.len()) {
-        (Some("stored"), 1) => stored::write(),
-        (Some("beside"), 3) => beside(number(&words, 1), number(&words, 2)),
-        (Some("time"), 3) => time(&words[1], number(&words, 2)),
-        _ => usage(),
+    let words: Vec<&str> = words.iter().map(String::as_str).collect();
+    match words[..] {
+        ["stored"] => stored::write(),
+        ["plan"] => plan(false),
+        ["table"] => plan(true),
+        _ => with_ours(&words),
     }
 }

@@ -1,28 +1,14 @@
 //! The private pool's size: the original's answer and ours, for one input.
 
+use crate::ROWS;
 use crate::cmdline::{Vtl2GpaPoolConfig, Vtl2GpaPoolLookupTable};
 use crate::dma_hint;
 use crate::random::Random;
-use crate::ROWS;
 use std::fmt;
 
 pub const MIB: u64 = 1 << 20;
 /// The first memory that is not looked up.
 pub const BOUND: u64 = 0xFFFFFFFF00000;
-
-unsafe extern "C" {
-    safe fn bootplan_release_hint(vp_count: u64, mem_size: u64) -> u64;
-    safe fn bootplan_debug_hint(vp_count: u64, mem_size: u64) -> u64;
-    safe fn bootplan_pool_size(
-        kind: u8,
-        pages: u64,
-        host_given: bool,
-        host_pages: u64,
-        vp_count: u64,
-        mem_size: u64,
-        size: &mut u64,
-    ) -> bool;
-}
 
 #[derive(Clone, Copy)]
 pub struct Input {
@@ -41,11 +27,12 @@ impl Input {
         dma_hint::vtl2_calculate_dma_hint(table, self.vp_count as usize, self.mem_size)
     }
 
+    #[cfg(feature = "ours")]
     #[inline(never)]
     pub fn ours(self) -> u64 {
         match self.debug {
-            false => bootplan_release_hint(self.vp_count, self.mem_size),
-            true => bootplan_debug_hint(self.vp_count, self.mem_size),
+            false => bootplan::release_hint(self.vp_count, self.mem_size),
+            true => bootplan::debug_hint(self.vp_count, self.mem_size),
         }
     }
 
@@ -111,10 +98,11 @@ impl PoolInput {
     }
 
     /// The size is stored only where there is a pool.
+    #[cfg(feature = "ours")]
     pub fn ours(self) -> Option<u64> {
         const FOUND: u64 = 0x5a5a_5a5a_5a5a_5a5a;
         let mut size = FOUND;
-        let is_pool = bootplan_pool_size(
+        let is_pool = bootplan::ffi::bootplan_pool_size(
             self.kind,
             self.pages,
             self.host.is_some(),

@@ -2,9 +2,9 @@
 //! inputs. A line is a series of inputs a step apart, or one alone, with its answers; equal answers that
 //! follow one another are written once with their number.
 
-use crate::random::Random;
-use crate::sizing::{Input, PoolInput, BOUND, MIB};
 use crate::ROWS;
+use crate::random::Random;
+use crate::sizing::{BOUND, Input, MIB, PoolInput};
 
 /// Pairs of an answer and how often it follows itself that fit on a line.
 const PAIRS: usize = 40;

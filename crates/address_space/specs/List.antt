@@ -12,6 +12,7 @@ use Rattle.address_space.specs.declared.list.FreeRangeStep.the-variants 
 use Rattle.address_space.specs.declared.list.ReservedRange.{ReservedRange}
 use Rattle.address_space.specs.declared.list.ReservedRangeStep.{ReservedRangeStep}
 use Rattle.address_space.specs.declared.list.ReservedRangeStep.the-variants as reserved
+use Rattle.address_space.specs.declared.list.Vtl2Range.{Vtl2Range}
 use Rattle.address_space.specs.declared.list.Vtl2RangeStep.{Vtl2RangeStep}
 use Rattle.address_space.specs.declared.list.Vtl2RangeStep.the-variants as vtl2
 use Rattle.address_space.specs.declared.table.AddressRange.{AddressRange}
@@ -35,6 +36,14 @@ continuesAt end number e = eqb end (e .range .start) && eqb number (typeNumber (
 abbrev pub vtl2Ranges : List AddressRange → List TaggedRange
 vtl2Ranges es = mergeAdjacent (typedRanges es)
 
+-- ranges that are handed out, each with the number of its type
+abbrev pub numberedRange : Vtl2Range → TaggedRange
+numberedRange r = record { range = r .range; tag = typeNumber (r .«vtl_type») }
+
+abbrev pub numberedRanges : List Vtl2Range → List TaggedRange
+numberedRanges [] = []
+numberedRanges (r ∷ rs) = numberedRange r ∷ numberedRanges rs
+
 -- the reserved entries, in the table's order, unjoined
 abbrev pub reservedIn : MemoryRange → AddressUsage → List ReservedRange
 reservedIn r Free = []
@@ -55,7 +64,7 @@ freeRanges n (e ∷ es) = cond (isFreeOn n e) (e .range ∷ freeRanges n es) (fr
 
 -- what a step's answer stands for: the item that it yields and those from its index on
 abbrev pub vtl2Stepped : List AddressRange → Vtl2RangeStep → List TaggedRange
-vtl2Stepped es (vtl2.Range r next) = record { range = r .range; tag = typeNumber (r .«vtl_type») } ∷ vtl2Ranges (drop next es)
+vtl2Stepped es (vtl2.Range r next) = numberedRange r ∷ vtl2Ranges (drop next es)
 vtl2Stepped es vtl2.End = []
 
 abbrev pub reservedStepped : List AddressRange → ReservedRangeStep → List ReservedRange

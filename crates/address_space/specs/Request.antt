@@ -76,6 +76,16 @@ unfoldable pub requested : OptionU32 → ℕ → AllocationType → AllocationPo
 requested asked len type policy alignment es =
     unless (rowsRefusal len alignment) (allocated asked (roundUp pageSize len) type policy alignment es)
 
+-- row 25 of a search: it ends at nothing
+abbrev pub missed : Search AddressRange → Option ℕ
+missed nothing = some noFit
+missed (found before e after) = none
+
+-- rows 22 to 25 of a request
+abbrev pub searchRefusal : OptionU32 → ℕ → AllocationPolicy → OptionU64 → List AddressRange → Option ℕ
+searchRefusal asked len policy alignment es =
+    downward (rowsRefusal len alignment ∷ missed (searched policy (fitsIn asked (roundUp pageSize len) alignment) es) ∷ [])
+
 -- the rounded length, or the refusal, as an answer
 abbrev pub lengthAs : Option ℕ → ℕ → Length
 lengthAs none len = length-answer.Rounded len

@@ -1,5 +1,5 @@
 -- The split of the chosen entry (docs/SPEC.md, section 22).
-use Prim.Native.Nat.{ℕ, _-_}
+use Prim.Native.Nat.{ℕ, _+_, _-_}
 use mathlib.Core.Bool.{cond}
 use mathlib.Core.List.{List, [], _∷_, _++_}
 use lib.Dec.{ltb}
@@ -7,6 +7,7 @@ use Rattle.memory_range.specs.declared.range.MemoryRange.{MemoryRange}
 use Rattle.memory_range.specs.Range.{range, lengthOf, splitAt}
 use Rattle.host_params.specs.declared.AllocationPolicy.{AllocationPolicy}
 use Rattle.host_params.specs.declared.AllocationPolicy.the-variants.{LowMemory, HighMemory}
+use Rattle.address_space.specs.declared.split.SplitParts.{SplitParts}
 use Rattle.address_space.specs.declared.table.AddressRange.{AddressRange}
 use Rattle.address_space.specs.declared.usage.AddressUsage.{AddressUsage}
 use Rattle.address_space.specs.declared.usage.AddressUsage.the-variants.{Free}
@@ -38,3 +39,20 @@ splitEntry used usage e =
     leftFree (e .vnode) (e .range .start) (used .start)
     ++ handedOut (e .vnode) usage used
     ∷ leftFree (e .vnode) (used .end) (e .range .end)
+
+-- what is left free from s to e, or another entry where no byte lies between
+abbrev pub freeOr : ℕ → ℕ → ℕ → AddressRange → AddressRange
+freeOr n s e other = cond (ltb s e) (freeEntry n (range s e)) other
+
+-- the same by its first part, its last part and the one handed out, with how many are below that and how many
+-- there are besides one: with nothing left below, the one handed out is the first, and with nothing above, the last
+abbrev pub partsOf : MemoryRange → AddressUsage → AddressRange → SplitParts
+partsOf used usage e =
+    let handed = handedOut (e .vnode) usage used in
+    let below = partCount (e .range .start) (used .start) in record {
+      first = freeOr (e .vnode) (e .range .start) (used .start) handed;
+      used = handed;
+      last = freeOr (e .vnode) (used .end) (e .range .end) handed;
+      below = below;
+      added = below + partCount (used .end) (e .range .end);
+    }

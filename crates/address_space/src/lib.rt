@@ -17,6 +17,7 @@ pub use list::ReservedRange;
 pub use list::ReservedRangeStep;
 pub use list::Vtl2Range;
 pub use list::Vtl2RangeStep;
+pub use list::Vtl2Ranges;
 pub use request::Allocated;
 pub use request::AllocatedRange;
 pub use request::Allocation;

@@ -4,15 +4,15 @@ ghost use Prim.Native.Nat.{_+_, _<_};
 ghost use lib.ListN.{length, take, drop, getD};
 ghost use Rattle.memory_range.specs.Round.{roundUp};
 ghost use Rattle.memory_range.specs.Valid.{pageSize};
-ghost use Rattle.address_space.specs.Request.{alignmentGood, rowsRefusal, lengthAs, placed, allocated, refusedWith, allocationAs, requestedOn};
+ghost use Rattle.refusal.specs.Answer.{rowsAs};
+ghost use Rattle.address_space.specs.Request.{alignmentGood, rowsRefusal, lengthAs, placed, allocated, refusedWith, allocationAs, requestedOn, searchRefusal};
 ghost use Rattle.address_space.specs.Table.{entriesOf, noEntry};
 ghost use Rattle.host_params.specs.declared.OptionU64.the-variants as optionU64;
 use crate::fit::aligned_to;
 use crate::search::Place;
 use crate::search::find_index;
-use crate::split::added_by;
 use crate::split::allotted_part;
-use crate::split::split_entry;
+use crate::split::split_parts;
 use crate::table::AddressSpaceManager;
 use crate::table::MAX_ADDRESS_RANGES;
 use crate::usage::is_pool;
@@ -30,6 +30,7 @@ use refusal::ALIGNMENT_INVALID;
 use refusal::LENGTH_TOO_LARGE;
 use refusal::LENGTH_ZERO;
 use refusal::NO_FIT;
+use refusal::Rows;
 use refusal::TABLE_FULL;
 
 // What is handed out.
@@ -91,9 +92,10 @@ fn refused(manager: AddressSpaceManager, number: u8) -> Allocation
     }
 }
 
-// The entry at an index is split, unless the table has no room for its parts.
+// The entry at an index is split, unless the table has no room for its parts. The table is changed in this
+// function alone, and not handed on: each function that takes it and gives it back copies it twice.
 fn allocate_range(
-    manager: AddressSpaceManager,
+    mut manager: AddressSpaceManager,
     at: usize,
     len: u64,
     allocation_type: AllocationType,
@@ -109,10 +111,23 @@ fn allocate_range(
 {
     let entry = manager.address_space[at];
     let used = allotted_part(aligned_to(alignment, entry.range), len, allocation_policy);
-    if MAX_ADDRESS_RANGES < manager.len() + added_by(entry.range, used) {
+    let parts = split_parts(entry, used, usage_for(allocation_type));
+    let count = manager.len();
+    if MAX_ADDRESS_RANGES < count + parts.added {
         return refused(manager, TABLE_FULL);
     }
-    let mut manager = split_entry(manager, at, used, usage_for(allocation_type));
+    let mut above = count;
+    while at + 1 < above {
+        above -= 1;
+        manager.address_space[above + parts.added] = manager.address_space[above];
+    }
+    let first = parts.first;
+    let handed = parts.used;
+    let last = parts.last;
+    manager.address_space[at] = first;
+    manager.address_space[at + parts.below] = handed;
+    manager.address_space[at + parts.added] = last;
+    manager.count = count + parts.added;
     manager.vtl2_pool |= is_pool(allocation_type);
     Allocation {
         answer: Allocated::Range(AllocatedRange {
@@ -149,6 +164,28 @@ impl AddressSpaceManager {
                 allocation_policy,
                 alignment,
             ),
+        }
+    }
+
+    // Rows 22 to 25 of a request: that it is refused by one, or that an entry fits. Only the answer comes
+    // back, so a caller that asks this first gets no copy of the table for a request that is refused.
+    pub fn check_request(
+        self,
+        required_vnode: OptionU32,
+        len: u64,
+        allocation_policy: AllocationPolicy,
+        alignment: OptionU64,
+    ) -> Rows
+        ensures { λ r. ⌜ r ≡ rowsAs (searchRefusal «required_vnode» len «allocation_policy» alignment (entriesOf self)) ⌝ }
+    {
+        match check_rows(len, alignment) {
+            Length::Refused(number) => Rows::Refused(number),
+            Length::Rounded(len) => {
+                match find_index(self, required_vnode, len, allocation_policy, alignment) {
+                    Place::Nowhere => Rows::Refused(NO_FIT),
+                    Place::At(_) => Rows::Passed,
+                }
+            }
         }
     }
 

@@ -1,12 +1,8 @@
 // The split of the chosen entry.
 ghost use mathlib.Core.Path.{_≡_};
-ghost use Prim.Native.Nat.{_+_, _≤_, _<_};
-ghost use lib.ListN.{length, take, drop, getD};
-ghost use mathlib.Core.List.{_++_};
-ghost use Rattle.address_space.specs.Split.{allotted, freeEntry, handedOut, partCount, splitEntry};
-ghost use Rattle.address_space.specs.Table.{maxAddressRanges, entriesOf, poolOf, tableWith, noEntry};
+ghost use Prim.Native.Nat.{_+_};
+ghost use Rattle.address_space.specs.Split.{allotted, freeEntry, handedOut, partCount, partsOf};
 use crate::table::AddressRange;
-use crate::table::AddressSpaceManager;
 use crate::usage::AddressUsage;
 use host_params::AllocationPolicy;
 use memory_range::MemoryRange;
@@ -59,71 +55,47 @@ fn part_count(start: u64, end: u64) -> usize
 }
 
 // How many entries the split adds to the table.
-pub(crate) fn added_by(range: MemoryRange, used: MemoryRange) -> usize
+fn added_by(range: MemoryRange, used: MemoryRange) -> usize
     ensures { λ r. ⌜ r ≡ partCount (range .start) (used .start) + partCount (used .end) (range .end) ⌝ }
 {
     part_count(range.start, used.start) + part_count(used.end, range.end)
 }
 
-// Moves the entries from an index on up by so many places.
-fn move_up(
-    mut manager: AddressSpaceManager,
-    count: usize,
-    from: usize,
-    by: usize,
-) -> AddressSpaceManager
-    requires { ⌜ (from ≤ count) × (count + by ≤ maxAddressRanges) ⌝ }
-    ensures { λ r. ⌜ take (from + by) (r .«address_space») ≡ take (from + by) (manager .«address_space») ⌝ }
-    ensures { λ r. ⌜ drop (from + by) (take (count + by) (r .«address_space»)) ≡ drop from (take count (manager .«address_space»)) ⌝ }
-    ensures { λ r. ⌜ drop (count + by) (r .«address_space») ≡ drop (count + by) (manager .«address_space») ⌝ }
-    ensures { λ r. ⌜ (r .count ≡ manager .count) × (r .«vtl2_pool» ≡ manager .«vtl2_pool») ⌝ }
-{
-    let mut at = count;
-    while from < at {
-        at -= 1;
-        manager.address_space[at + by] = manager.address_space[at];
-    }
-    manager
+// The parts of an entry that is split: the first and the last of them, the one handed out and how many
+// are below it, and how many entries they add to the table.
+pub(crate) struct SplitParts {
+    pub first: AddressRange,
+    pub used: AddressRange,
+    pub last: AddressRange,
+    pub below: usize,
+    pub added: usize,
 }
 
-// Puts what the split makes of an entry in its place.
-pub(crate) fn split_entry(
-    manager: AddressSpaceManager,
-    at: usize,
-    used: MemoryRange,
-    usage: AddressUsage,
-) -> AddressSpaceManager
-    requires { ⌜ at < length (entriesOf manager) ⌝
-        ∗ ⌜ length (entriesOf manager) + (partCount (getD (entriesOf manager) at noEntry .range .start) (used .start)
-        + partCount (used .end) (getD (entriesOf manager) at noEntry .range .end)) ≤ maxAddressRanges ⌝ }
-    ensures { λ r. ⌜
-        r ≡ tableWith manager
-        (take at (entriesOf manager)
-        ++ splitEntry used usage (getD (entriesOf manager) at noEntry)
-        ++ drop (at + 1) (entriesOf manager))
-        (poolOf manager)
-        ⌝ }
+pub(crate) fn split_parts(entry: AddressRange, used: MemoryRange, usage: AddressUsage) -> SplitParts
+    ensures { λ r. ⌜ r ≡ partsOf used usage entry ⌝ }
 {
-    let count = manager.len();
-    let entry = manager.address_space[at];
-    let below = part_count(entry.range.start, used.start);
-    let added = added_by(entry.range, used);
-    let mut manager = move_up(manager, count, at + 1, added);
+    let handed = handed_out(used, entry.vnode, usage);
+    let mut first = handed;
+    let mut last = handed;
     if entry.range.start < used.start {
         let range = MemoryRange {
             start: entry.range.start,
             end: used.start,
         };
-        manager.address_space[at] = free_entry(range, entry.vnode);
+        first = free_entry(range, entry.vnode);
     }
-    manager.address_space[at + below] = handed_out(used, entry.vnode, usage);
     if used.end < entry.range.end {
         let range = MemoryRange {
             start: used.end,
             end: entry.range.end,
         };
-        manager.address_space[at + below + 1] = free_entry(range, entry.vnode);
+        last = free_entry(range, entry.vnode);
     }
-    manager.count = count + added;
-    manager
+    SplitParts {
+        first,
+        used: handed,
+        last,
+        below: part_count(entry.range.start, used.start),
+        added: added_by(entry.range, used),
+    }
 }

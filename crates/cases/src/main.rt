@@ -2,6 +2,7 @@
 // lists parted by `/`, the last one by `=`: that one is what the operation answers to the others. In the
 // file of texts the name is followed by a text, and in those of plans the answer is one too. A line with an
 // answer that differs is printed; the last line of each file counts.
+mod blocks;
 mod builds;
 mod case;
 mod decode;
@@ -31,7 +32,7 @@ enum Replayed {
 }
 
 // Whose answers a data file stores.
-enum Layer {
+pub(crate) enum Layer {
     MemoryRange,
     PlanText,
     PlanOutput,
@@ -108,30 +109,47 @@ fn replay_line(line: &[u8], layer: Layer) -> Replayed {
 }
 
 // How many cases were replayed, and how many stand in lines that hold a wrong answer.
-struct Counts {
+pub(crate) struct Counts {
     cases: u64,
     differing: u64,
+}
+
+pub(crate) fn no_counts() -> Counts {
+    Counts {
+        cases: 0,
+        differing: 0,
+    }
+}
+
+pub(crate) fn added(counts: Counts, more: Counts) -> Counts {
+    Counts {
+        cases: std::num::wrapping_add_u64(counts.cases, more.cases),
+        differing: std::num::wrapping_add_u64(counts.differing, more.differing),
+    }
 }
 
 fn counted(counts: Counts, line: Replayed) -> Counts {
     match line {
         Replayed::NoCase => counts,
-        Replayed::Same(cases) => Counts {
-            cases: std::num::wrapping_add_u64(counts.cases, cases),
-            differing: counts.differing,
-        },
-        Replayed::Differs(cases) => Counts {
-            cases: std::num::wrapping_add_u64(counts.cases, cases),
-            differing: std::num::wrapping_add_u64(counts.differing, cases),
-        },
+        Replayed::Same(cases) => added(
+            counts,
+            Counts {
+                cases,
+                differing: 0,
+            },
+        ),
+        Replayed::Differs(cases) => added(
+            counts,
+            Counts {
+                cases,
+                differing: cases,
+            },
+        ),
     }
 }
 
-fn replay_text(text: &[u8], layer: Layer) -> Counts {
-    let mut counts = Counts {
-        cases: 0,
-        differing: 0,
-    };
+pub(crate) fn replay_text(text: &[u8], layer: Layer) -> Counts {
+    let mut counts = no_counts();
     let mut at = 0;
     while at < text.len() {
         let end = text::index_of(text, at, b'\n');
@@ -148,10 +166,8 @@ fn replay_file(path: &[u8], layer: Layer) {
         os::fail(path);
         return;
     }
-    let mut buffer = io::large_buffer();
-    let n = io::read_full(fd, &mut buffer);
+    let counts = blocks::replay_all(fd, layer);
     libc::close(fd);
-    let counts = replay_text(&buffer[..n], layer);
     io::write_all(STDOUT_FILENO, path);
     io::write_all(STDOUT_FILENO, b": ");
     io::print_decimal(STDOUT_FILENO, counts.cases);
@@ -176,4 +192,5 @@ fn main() {
     replay_file(b"plans_map_1024.txt", Layer::Plan);
     replay_file(b"plans_map_1025.txt", Layer::Plan);
     replay_file(b"plans_random.txt", Layer::Plan);
+    replay_file(b"plans_rust.txt", Layer::Plan);
 }

@@ -38,6 +38,23 @@ abbrev pub isProtectable : MemoryMapEntryType → Bool
 isProtectable Vtl2Protectable = true
 isProtectable Memory = false
 
+-- each field of a map as a list
+abbrev pub mapStarts : List MemoryEntry → List ℕ
+mapStarts [] = []
+mapStarts (e ∷ es) = e .range .start ∷ mapStarts es
+
+abbrev pub mapEnds : List MemoryEntry → List ℕ
+mapEnds [] = []
+mapEnds (e ∷ es) = e .range .end ∷ mapEnds es
+
+abbrev pub mapNodes : List MemoryEntry → List ℕ
+mapNodes [] = []
+mapNodes (e ∷ es) = e .vnode ∷ mapNodes es
+
+abbrev pub mapProtectable : List MemoryEntry → List Bool
+mapProtectable [] = []
+mapProtectable (e ∷ es) = isProtectable (e .«mem_type») ∷ mapProtectable es
+
 -- an entry's range with its node
 abbrev pub nodedRange : MemoryEntry → TaggedRange
 nodedRange e = record { range = e .range; tag = e .vnode }

@@ -1,10 +1,13 @@
-// A copy of the host's map.
+// A copy of the host's map, and an entry in lists of its fields.
 ghost use mathlib.Core.Path.{_≡_};
+ghost use lib.ListN.{set};
+ghost use Rattle.host_map.specs.Map.{isProtectable};
 ghost use Rattle.host_map.specs.Entries.{noEntry, noEntries, entriesHeld};
 use crate::rows::RangeCheck;
 use host_params::MemoryEntry;
 use host_params::MemoryMapEntryType;
 use memory_range::MemoryRange;
+use memory_range::put_range;
 
 pub const MAX_PARTITION_RAM_RANGES: usize = 1024;
 
@@ -30,6 +33,43 @@ pub fn no_entry() -> MemoryEntry
         vnode: 0,
         mem_type: MemoryMapEntryType::Memory,
     }
+}
+
+pub fn is_protectable(mem_type: MemoryMapEntryType) -> bool
+    ensures { λ r. ⌜ r ≡ isProtectable «mem_type» ⌝ }
+{
+    match mem_type {
+        MemoryMapEntryType::Vtl2Protectable => true,
+        MemoryMapEntryType::Memory => false,
+    }
+}
+
+fn put_flag(list: &mut [bool], at: usize, flag: bool)
+    ensures { λ _. ⌜ now (list .exit) ≡ set (now (list .entry)) at flag ⌝ }
+{
+    if list.len() <= at {
+        return;
+    }
+    list[at] = flag;
+}
+
+// Puts an entry at an index of four lists. What lies past a list's end is not written.
+pub fn put_entry(
+    starts: &mut [u64],
+    ends: &mut [u64],
+    nodes: &mut [u32],
+    protectable: &mut [bool],
+    at: usize,
+    entry: MemoryEntry,
+)
+    ensures { λ _. ⌜ now (starts .exit) ≡ set (now (starts .entry)) at (entry .range .start) ⌝ }
+    ensures { λ _. ⌜ now (ends .exit) ≡ set (now (ends .entry)) at (entry .range .end) ⌝ }
+    ensures { λ _. ⌜ now (nodes .exit) ≡ set (now (nodes .entry)) at (entry .vnode) ⌝ }
+    ensures { λ _. ⌜ now (protectable .exit) ≡ set (now (protectable .entry)) at (isProtectable (entry .«mem_type»)) ⌝ }
+{
+    let mem_type = entry.mem_type;
+    put_range(starts, ends, nodes, at, entry.range, entry.vnode);
+    put_flag(protectable, at, is_protectable(mem_type));
 }
 
 fn no_entries() -> [MemoryEntry; MAX_PARTITION_RAM_RANGES]

@@ -1,9 +1,10 @@
 -- The plan of a text, from its bytes to the bytes of the output (docs/SPEC.md, section 29; document 01, "The plan text").
-use Prim.Native.Nat.{ℕ, _+_, _*_, _/_, _≤_}
+use Prim.Native.Nat.{ℕ, _+_, _*_, _/_, _≤_, min}
 use mathlib.Core.Path.{_≡_}
-use mathlib.Core.Bool.{not, _&&_}
+use mathlib.Core.Bool.{Bool, not, _&&_, cond}
 use mathlib.Core.List.{List, [], _∷_, _++_}
 use mathlib.Core.Option.{Option, none, some}
+use lib.Dec.{ltb}
 use lib.ListN.{length, take}
 use Rattle.refusal.specs.Number.{rangeInvalid, rangesNotAscending}
 use Rattle.refusal.specs.Rows.{refusedIf, downward}
@@ -11,6 +12,7 @@ use Rattle.memory_range.specs.declared.range.MemoryRange.{MemoryRange}
 use Rattle.memory_range.specs.declared.range.TaggedRange.{TaggedRange}
 use Rattle.memory_range.specs.Valid.{allValid, ascend}
 use Rattle.host_params.specs.declared.IsolationType.{IsolationType}
+use Rattle.host_params.specs.declared.MemoryEntry.{MemoryEntry}
 use Rattle.boot_ram.specs.Held.{bytesOf}
 use Rattle.boot_ram.specs.Verdict.{maxChosen}
 use Rattle.vtl2_ram.specs.declared.ram.Vtl2Ram.{Vtl2Ram}
@@ -30,15 +32,23 @@ use Rattle.plan_record.specs.declared.record.Record.{Record}
 use Rattle.plan_text.specs.declared.text.TextCheck.{TextCheck}
 use Rattle.plan_text.specs.declared.text.TextCheck.the-variants as text
 use Rattle.plan_text.specs.Text.{textCheck, recordsOf, textSize}
-use Rattle.plan_input.specs.Selection.{SelectionIn}
+use Rattle.plan_input.specs.declared.build.BuildRead.{BuildRead}
+use Rattle.plan_input.specs.declared.once.PoolRead.{PoolRead}
+use Rattle.plan_input.specs.declared.selection.SelectionRead.{SelectionRead}
+use Rattle.plan_input.specs.Record.{recordsAt, behindOne}
+use Rattle.plan_input.specs.Once.{poolFirst}
+use Rattle.plan_input.specs.Selection.{SelectionIn, selectionIn, SelectionHeld}
+use Rattle.plan_input.specs.Build.{buildIn, BuildHeld}
 use Rattle.plan_input.specs.Input.{Input, inputOf, textRanges}
-use Rattle.plan_input.specs.Room.{mapRoom, importRoom}
+use Rattle.plan_input.specs.Room.{mapRoom, importRoom, configRoom, poolRoom}
 use Rattle.plan_output.specs.Line.{written}
 use Rattle.private_pool.specs.Pool.{Placement, placed}
 use Rattle.private_pool.specs.Pool as placement
 use Rattle.plan.specs.declared.line.OutputLine.{OutputLine}
 use Rattle.plan.specs.declared.planner.Planned.{Planned}
 use Rattle.plan.specs.declared.planner.Planned.the-variants.{Written, Refused}
+use Rattle.plan.specs.declared.planner.PlannedTo.{PlannedTo}
+use Rattle.plan.specs.declared.planner.PlannedTo.the-variants as to
 use Rattle.plan.specs.Line.{linesBytes, lineSize}
 use Rattle.plan.specs.Write.{ramLines, poolLines, mapLines}
 use Rattle.plan.specs.Get.{getLines, afterGets}
@@ -121,6 +131,19 @@ pub record Answers (p : Plan) (before after : List ℕ) (r : Planned) : Type 0 w
   pub answer : r ≡ plannedAs p
   pub output : after ≡ outputAs p before
 
+-- all that is read of an accepted text before its requests: of its lists as much as there is room for
+pub record TextRead (bytes : List ℕ) (read : SelectionRead) (build : BuildRead) (pool : PoolRead) (map : List MemoryEntry)
+    (imports configs pools : List MemoryRange) : Type 0 where
+  pub accepted : textCheck bytes ≡ text.Accepted
+  pub selection : SelectionHeld bytes (selectionIn (recordsAt bytes 0)) read
+  pub building : BuildHeld bytes (buildIn (selectionIn (recordsAt bytes 0) .rest)) build
+  pub pool-first : pool .pool ≡ poolFirst (buildIn (selectionIn (recordsAt bytes 0) .rest) .rest)
+  pub next : recordsAt bytes (pool .next) ≡ behindOne (buildIn (selectionIn (recordsAt bytes 0) .rest) .rest)
+  pub map-room : map ≡ take mapRoom (selectionIn (recordsAt bytes 0) .map)
+  pub imports-room : imports ≡ take importRoom (selectionIn (recordsAt bytes 0) .imports)
+  pub configs-room : configs ≡ take configRoom (buildIn (selectionIn (recordsAt bytes 0) .rest) .configs)
+  pub pools-room : pools ≡ take poolRoom (buildIn (selectionIn (recordsAt bytes 0) .rest) .pools)
+
 -- what selection comes to, by as much of the lists that are read as there is room for
 abbrev pub choiceOf : SelectionIn → Choice
 choiceOf s = choice (s .shape .mode) (s .shape .isolation) (s .shape .«memory_size») (s .file) (take mapRoom (s .map)) (take importRoom (s .imports))
@@ -137,9 +160,27 @@ pub record Selected (bytes : List ℕ) (isolation : IsolationType) (pool : Pool)
 abbrev pub shortestGet : ℕ
 shortestGet = 14
 
--- a plan has at most so many lines: of the RAM, of the pool, of requests, and of the table
-abbrev pub mostLines : ℕ
-mostLines = 64 + 64 + textSize / shortestGet + 256
+-- the plan of a text of so many bytes has at most so many lines: of the RAM, of the pool, of requests, and of the table
+abbrev pub mostLines : ℕ → ℕ
+mostLines size = 64 + 64 + size / shortestGet + 256
 
-abbrev pub outputSize : ℕ
-outputSize = mostLines * lineSize
+-- so many bytes suffice for the plan of every text of that many bytes; a text of more than 65,536 has none
+abbrev pub outputSizeFor : ℕ → ℕ
+outputSizeFor size = mostLines (min size textSize) * lineSize
+
+-- whether the output has fewer bytes than that: so it is told whatever the text is
+abbrev pub tooShort : List ℕ → List ℕ → Bool
+tooShort bytes output = ltb (length output) (outputSizeFor (length bytes))
+
+-- the plan's answer as one of three
+abbrev pub answerTo : Planned → PlannedTo
+answerTo (Refused n) = to.Refused n
+answerTo (Written n) = to.Written n
+
+-- the answer where the output may be too short: that it is, or the plan's
+abbrev pub plannedTo : List ℕ → List ℕ → PlannedTo
+plannedTo bytes output = cond (tooShort bytes output) to.NoRoom (answerTo (plannedAs (planOf bytes)))
+
+-- the output afterwards: as found where it is too short, else as the plan leaves it
+abbrev pub outputTo : List ℕ → List ℕ → List ℕ
+outputTo bytes output = cond (tooShort bytes output) output (outputAs (planOf bytes) output)

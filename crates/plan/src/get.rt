@@ -1,7 +1,8 @@
 // The requests of a plan text, answered as they are read.
 ghost use mathlib.Core.Path.{_≡_};
 ghost use lib.ListN.{length};
-ghost use Rattle.address_space.specs.Request.{allocationAs};
+ghost use Rattle.refusal.specs.Answer.{rowsAs};
+ghost use Rattle.address_space.specs.Request.{allocationAs, searchRefusal};
 ghost use Rattle.address_space.specs.Table.{entriesOf};
 ghost use Rattle.plan_text.specs.Plan.{heldBy, getHeld};
 ghost use Rattle.plan_input.specs.Record.{recordsAt};
@@ -18,6 +19,7 @@ use plan_record::Get;
 use plan_record::Record;
 use plan_text::RecordStep;
 use plan_text::next_record;
+use refusal::Rows;
 
 // The table after all requests, and the place behind their lines.
 pub(crate) struct Answered {
@@ -48,6 +50,17 @@ fn next_get(text: &[u8], at: usize) -> GetStep
         RecordStep::Malformed => GetStep::End,
         RecordStep::End => GetStep::End,
     }
+}
+
+fn check_get(manager: AddressSpaceManager, get: Get) -> Rows
+    ensures { λ r. ⌜
+        r ≡ rowsAs (searchRefusal (get .«required_vnode») (get .len) (get .«allocation_policy») (get .alignment) (entriesOf manager))
+        ⌝ }
+{
+    let required_vnode = get.required_vnode;
+    let allocation_policy = get.allocation_policy;
+    let alignment = get.alignment;
+    manager.check_request(required_vnode, get.len, allocation_policy, alignment)
 }
 
 fn answer_get(manager: AddressSpaceManager, get: Get) -> Allocation
@@ -91,7 +104,8 @@ fn answer_line(answer: Allocated) -> OutputLine
     }
 }
 
-// Each request is answered on the table that the last one left.
+// Each request is answered on the table that the last one left. One that finds no entry leaves the table, and
+// so it is told from the others first, which spares it the copies of a table that is handed back.
 pub(crate) fn answer_gets(
     text: &[u8],
     from: usize,
@@ -110,10 +124,17 @@ pub(crate) fn answer_gets(
         match next_get(text, place) {
             GetStep::End => return Answered { manager, next },
             GetStep::Get(get, behind) => {
-                let allocation = answer_get(manager, get);
-                let answer = allocation.answer;
-                next = put_line(output, next, answer_line(answer));
-                manager = allocation.manager;
+                match check_get(manager, get) {
+                    Rows::Refused(number) => {
+                        next = put_line(output, next, OutputLine::No(number));
+                    }
+                    Rows::Passed => {
+                        let allocation = answer_get(manager, get);
+                        let answer = allocation.answer;
+                        next = put_line(output, next, answer_line(answer));
+                        manager = allocation.manager;
+                    }
+                }
                 place = behind;
             }
         }

@@ -9,4 +9,7 @@ mod write;
 pub use line::OutputLine;
 pub use planner::OUTPUT_SIZE;
 pub use planner::Planned;
+pub use planner::PlannedTo;
+pub use planner::output_size;
 pub use planner::plan;
+pub use planner::plan_to;

@@ -4,19 +4,20 @@ ghost use mathlib.Core.Path.{_≡_};
 ghost use Prim.Native.Nat.{_≤_};
 ghost use lib.ListN.{length, take};
 ghost use Rattle.memory_range.specs.List.{rangesOf, firstTagged};
+ghost use Rattle.host_map.specs.Map.{mapOf};
 ghost use Rattle.boot_ram.specs.Held.{bytesOf};
 ghost use Rattle.vtl2_ram.specs.Ram.{ramAs};
 ghost use Rattle.vtl2_ram.specs.Select.{choice};
 ghost use Rattle.address_space.specs.Table.{entriesOf};
 ghost use Rattle.memory.specs.Build.{built};
-ghost use Rattle.plan_text.specs.declared.text.TextCheck.the-variants.{Accepted};
-ghost use Rattle.plan_text.specs.Text.{textCheck};
+ghost use Rattle.plan_text.specs.Text.{textSize};
 ghost use Rattle.plan_input.specs.Record.{recordsAt};
 ghost use Rattle.plan_input.specs.Input.{getsFirst};
+ghost use Rattle.plan_input.specs.Room.{mapRoom, importRoom};
 ghost use Rattle.plan_input.specs.Selection.{selectionIn, SelectionHeld};
 ghost use Rattle.plan.specs.Line.{Room, Wrote};
 ghost use Rattle.private_pool.specs.Pool.{maxPoolRanges};
-ghost use Rattle.plan.specs.Planner.{planLines, afterBuild, planOf, plannedAs, outputAs, Answers, outputSize, choiceOf, Selected};
+ghost use Rattle.plan.specs.Planner.{planLines, afterBuild, planOf, plannedAs, outputAs, Answers, outputSizeFor, plannedTo, outputTo, TextRead, Selected};
 use crate::get::answer_gets;
 use crate::pool::place_pool;
 use crate::write::write_map_lines;
@@ -24,11 +25,13 @@ use crate::write::write_pool_lines;
 use crate::write::write_ram_lines;
 use address_space::AddressSpaceManager;
 use address_space::MAX_ADDRESS_RANGES;
+use host_map::MAP_ROOM;
 use host_params::IsolationType;
 use host_params::MAX_VTL2_RAM_RANGES;
 use memory::AddressSpaceManagerBuilder;
 use memory::Initialized;
 use memory_range::at_most;
+use plan_input::BuildRead;
 use plan_input::CONFIG_ROOM;
 use plan_input::IMPORT_ROOM;
 use plan_input::POOL_ROOM;
@@ -40,31 +43,37 @@ use plan_input::read_selection;
 use plan_output::LINE_SIZE;
 use plan_text::TEXT_SIZE;
 use plan_text::TextCheck;
-use plan_text::check_text;
+use plan_text::check_from;
 use private_pool::PoolPlaced;
 use private_pool::PrivatePool;
 use refusal::RANGE_INVALID;
 use refusal::RANGES_NOT_ASCENDING;
+use refusal::TEXT_TOO_LONG;
 use vtl2_ram::Selection;
 use vtl2_ram::Vtl2Ram;
-use vtl2_ram::select_from_array;
+use vtl2_ram::select_from_lists;
 
 // The bytes of the shortest request: `get`, five fields of a byte, and the byte behind each of the six.
 const SHORTEST_GET: usize = 3 + 5 + 6;
 
-// The most lines of a plan: of the RAM, of the pool, of requests, and of the table.
-const MOST_LINES: usize = MAX_VTL2_RAM_RANGES
-    + MAX_VTL2_RAM_RANGES
-    + TEXT_SIZE / SHORTEST_GET
-    + MAX_ADDRESS_RANGES;
+// The most lines of a plan beside those of requests: of the RAM, of the pool, and of the table.
+const MOST_OTHER_LINES: usize = MAX_VTL2_RAM_RANGES + MAX_VTL2_RAM_RANGES + MAX_ADDRESS_RANGES;
 
 // So many bytes suffice for every plan.
-pub const OUTPUT_SIZE: usize = MOST_LINES * LINE_SIZE;
+pub const OUTPUT_SIZE: usize = (MOST_OTHER_LINES + TEXT_SIZE / SHORTEST_GET) * LINE_SIZE;
 
 pub enum Planned {
     // So many bytes of the output.
     Written(usize),
     Refused(u8),
+}
+
+pub enum PlannedTo {
+    // So many bytes of the output.
+    Written(usize),
+    Refused(u8),
+    // The output is too short for some plan of a text of that length.
+    NoRoom,
 }
 
 // The lines, in the order of the output. The requests are answered as they are read.
@@ -101,7 +110,7 @@ fn plan_table(
     table: AddressSpaceManager,
     output: &mut [u8],
 ) -> Planned
-    requires { ⌜ outputSize ≤ length (now output) ⌝
+    requires { ⌜ outputSizeFor (length (now text)) ≤ length (now output) ⌝
         ∗ ⌜ («ram_count» ≤ 64) × («ram_bytes» ≡ bytesOf (firstTagged «ram_count» (ram .starts) (ram .ends) (ram .nodes))) ⌝
         ∗ ⌜ planOf (now text) ≡ afterBuild isolation (pool .pool) (firstTagged «ram_count» (ram .starts) (ram .ends) (ram .nodes)) (getsFirst (recordsAt (now text) (pool .next))) (built (entriesOf table)) ⌝ }
     ensures { λ r. ⌜ Answers (planOf (now (text .entry))) (now (output .entry)) (now (output .exit)) r ⌝ }
@@ -136,7 +145,7 @@ fn plan_ram<'a>(
     pool_ends: &'a [u64],
     output: &mut [u8],
 ) -> Planned
-    requires { ⌜ outputSize ≤ length (now output) ⌝
+    requires { ⌜ outputSizeFor (length (now text)) ≤ length (now output) ⌝
         ∗ ⌜ Selected (now text) isolation (pool .pool) builder (getsFirst (recordsAt (now text) (pool .next)))
         (rangesOf (now «config_starts») (now «config_ends»)) (rangesOf (now «pool_starts») (now «pool_ends»)) ram ⌝ }
     ensures { λ r. ⌜ Answers (planOf (now (text .entry))) (now (output .entry)) (now (output .exit)) r ⌝ }
@@ -177,13 +186,113 @@ fn plan_ram<'a>(
     }
 }
 
-// What the build is given is read, and rows 4 and 5 are looked at over all ranges of the text. They come
-// before every refusal of the selection, whose answer is at hand.
-fn plan_selected(text: &[u8], read: SelectionRead, ram: Vtl2Ram, output: &mut [u8]) -> Planned
-    requires { ⌜ outputSize ≤ length (now output) ⌝
-        ∗ ⌜ textCheck (now text) ≡ Accepted ⌝
+// RAM is selected from what was read.
+fn select_ram<'a>(
+    read: SelectionRead,
+    map_starts: &'a [u64],
+    map_ends: &'a [u64],
+    map_nodes: &'a [u32],
+    map_protectable: &'a [bool],
+    import_starts: &'a [u64],
+    import_ends: &'a [u64],
+) -> Vtl2Ram
+    ensures { λ r. ⌜
+        r ≡ ramAs (choice (read .shape .mode) (read .shape .isolation) (read .shape .«memory_size») (read .file)
+        (mapOf (now («map_starts» .entry)) (now («map_ends» .entry)) (now («map_nodes» .entry)) (now («map_protectable» .entry)))
+        (rangesOf (now («import_starts» .entry)) (now («import_ends» .entry))))
+        ⌝ }
+{
+    let shape = read.shape;
+    let mode = shape.mode;
+    let isolation = shape.isolation;
+    let memory_size = shape.memory_size;
+    select_from_lists(
+        mode,
+        isolation,
+        memory_size,
+        read.file,
+        map_starts,
+        map_ends,
+        map_nodes,
+        map_protectable,
+        import_starts,
+        import_ends,
+    )
+}
+
+// Rows 4 and 5 are looked at over all ranges of the text, and then RAM is selected.
+fn plan_accepted<'a>(
+    text: &'a [u8],
+    read: SelectionRead,
+    build: BuildRead,
+    pool: PoolRead,
+    map_starts: &'a [u64],
+    map_ends: &'a [u64],
+    map_nodes: &'a [u32],
+    map_protectable: &'a [bool],
+    import_starts: &'a [u64],
+    import_ends: &'a [u64],
+    config_starts: &'a [u64],
+    config_ends: &'a [u64],
+    pool_starts: &'a [u64],
+    pool_ends: &'a [u64],
+    output: &mut [u8],
+) -> Planned
+    requires { ⌜ outputSizeFor (length (now text)) ≤ length (now output) ⌝
+        ∗ ⌜ TextRead (now text) read build pool (mapOf (now «map_starts») (now «map_ends») (now «map_nodes») (now «map_protectable»))
+        (rangesOf (now «import_starts») (now «import_ends»)) (rangesOf (now «config_starts») (now «config_ends»)) (rangesOf (now «pool_starts») (now «pool_ends»)) ⌝ }
+    ensures { λ r. ⌜ Answers (planOf (now (text .entry))) (now (output .entry)) (now (output .exit)) r ⌝ }
+{
+    if !(read.valid & build.valid) {
+        return Planned::Refused(RANGE_INVALID);
+    }
+    if !read.ascending {
+        return Planned::Refused(RANGES_NOT_ASCENDING);
+    }
+    let shape = read.shape;
+    let isolation = shape.isolation;
+    let builder = build.builder;
+    let ram = select_ram(
+        read,
+        map_starts,
+        map_ends,
+        map_nodes,
+        map_protectable,
+        import_starts,
+        import_ends,
+    );
+    plan_ram(
+        text,
+        pool,
+        isolation,
+        builder,
+        ram,
+        config_starts,
+        config_ends,
+        pool_starts,
+        pool_ends,
+        output,
+    )
+}
+
+// What the build is given is read, then the pool, and the check of the text goes on behind them. Its
+// refusals come before all others.
+fn plan_read<'a>(
+    text: &'a [u8],
+    read: SelectionRead,
+    map_starts: &'a [u64],
+    map_ends: &'a [u64],
+    map_nodes: &'a [u32],
+    map_protectable: &'a [bool],
+    import_starts: &'a [u64],
+    import_ends: &'a [u64],
+    output: &mut [u8],
+) -> Planned
+    requires { ⌜ outputSizeFor (length (now text)) ≤ length (now output) ⌝
+        ∗ ⌜ length (now text) ≤ textSize ⌝
         ∗ ⌜ SelectionHeld (now text) (selectionIn (recordsAt (now text) 0)) read ⌝
-        ∗ ⌜ ram ≡ ramAs (choiceOf (selectionIn (recordsAt (now text) 0))) ⌝ }
+        ∗ ⌜ mapOf (now «map_starts») (now «map_ends») (now «map_nodes») (now «map_protectable») ≡ take mapRoom (selectionIn (recordsAt (now text) 0) .map) ⌝
+        ∗ ⌜ rangesOf (now «import_starts») (now «import_ends») ≡ take importRoom (selectionIn (recordsAt (now text) 0) .imports) ⌝ }
     ensures { λ r. ⌜ Answers (planOf (now (text .entry))) (now (output .entry)) (now (output .exit)) r ⌝ }
 {
     let mut config_starts = [0; CONFIG_ROOM];
@@ -193,28 +302,29 @@ fn plan_selected(text: &[u8], read: SelectionRead, ram: Vtl2Ram, output: &mut [u
     let build = read_build(
         text,
         read.next,
+        read.order,
         &mut config_starts,
         &mut config_ends,
         &mut pool_starts,
         &mut pool_ends,
     );
-    if !(read.valid & build.valid) {
-        return Planned::Refused(RANGE_INVALID);
-    }
-    if !read.ascending {
-        return Planned::Refused(RANGES_NOT_ASCENDING);
+    let pool = read_pool(text, build.next, build.order);
+    if let TextCheck::Refused(number) = check_from(text, pool.next, pool.order) {
+        return Planned::Refused(number);
     }
     let configs = at_most(build.config_count, CONFIG_ROOM);
     let pools = at_most(build.pool_count, POOL_ROOM);
-    let shape = read.shape;
-    let isolation = shape.isolation;
-    let builder = build.builder;
-    plan_ram(
+    plan_accepted(
         text,
-        read_pool(text, build.next),
-        isolation,
-        builder,
-        ram,
+        read,
+        build,
+        pool,
+        map_starts,
+        map_ends,
+        map_nodes,
+        map_protectable,
+        import_starts,
+        import_ends,
         &config_starts[..configs],
         &config_ends[..configs],
         &pool_starts[..pools],
@@ -223,42 +333,42 @@ fn plan_selected(text: &[u8], read: SelectionRead, ram: Vtl2Ram, output: &mut [u
     )
 }
 
-// RAM is selected from what was read.
-fn select_ram<'a>(read: SelectionRead, import_starts: &'a [u64], import_ends: &'a [u64]) -> Vtl2Ram
-    ensures { λ r. ⌜
-        r ≡ ramAs (choice (read .shape .mode) (read .shape .isolation) (read .shape .«memory_size») (read .file)
-        (take (read .«map_count») (read .map))
-        (rangesOf (now («import_starts» .entry)) (now («import_ends» .entry))))
-        ⌝ }
-{
-    let shape = read.shape;
-    let mode = shape.mode;
-    let isolation = shape.isolation;
-    let memory_size = shape.memory_size;
-    let map = read.map;
-    select_from_array(
-        mode,
-        isolation,
-        memory_size,
-        read.file,
-        map,
-        read.map_count,
-        import_starts,
-        import_ends,
-    )
-}
-
-// What selection is given is read, and RAM is selected.
-fn plan_accepted(text: &[u8], output: &mut [u8]) -> Planned
-    requires { ⌜ outputSize ≤ length (now output) ⌝ ∗ ⌜ textCheck (now text) ≡ Accepted ⌝ }
+// Every stage, on an output that suffices. The text is read once, but for its requests.
+fn plan_within(text: &[u8], output: &mut [u8]) -> Planned
+    requires { ⌜ outputSizeFor (length (now text)) ≤ length (now output) ⌝ }
     ensures { λ r. ⌜ Answers (planOf (now (text .entry))) (now (output .entry)) (now (output .exit)) r ⌝ }
 {
+    if TEXT_SIZE < text.len() {
+        return Planned::Refused(TEXT_TOO_LONG);
+    }
+    let mut map_starts = [0; MAP_ROOM];
+    let mut map_ends = [0; MAP_ROOM];
+    let mut map_nodes = [0; MAP_ROOM];
+    let mut map_protectable = [false; MAP_ROOM];
     let mut import_starts = [0; IMPORT_ROOM];
     let mut import_ends = [0; IMPORT_ROOM];
-    let read = read_selection(text, &mut import_starts, &mut import_ends);
+    let read = read_selection(
+        text,
+        &mut map_starts,
+        &mut map_ends,
+        &mut map_nodes,
+        &mut map_protectable,
+        &mut import_starts,
+        &mut import_ends,
+    );
+    let entries = at_most(read.map_count, MAP_ROOM);
     let imports = at_most(read.import_count, IMPORT_ROOM);
-    let ram = select_ram(read, &import_starts[..imports], &import_ends[..imports]);
-    plan_selected(text, read, ram, output)
+    plan_read(
+        text,
+        read,
+        &map_starts[..entries],
+        &map_ends[..entries],
+        &map_nodes[..entries],
+        &map_protectable[..entries],
+        &import_starts[..imports],
+        &import_ends[..imports],
+        output,
+    )
 }
 
 // Writes the plan of a text at the start of the output, or answers the number of its refusal and
@@ -267,8 +377,27 @@ pub fn plan(text: &[u8], output: &mut [u8; OUTPUT_SIZE]) -> Planned
     ensures { λ r. ⌜ r ≡ plannedAs (planOf (now (text .entry))) ⌝ }
     ensures { λ _. ⌜ now (output .exit) ≡ outputAs (planOf (now (text .entry))) (now (output .entry)) ⌝ }
 {
-    match check_text(text) {
-        TextCheck::Refused(number) => Planned::Refused(number),
-        TextCheck::Accepted => plan_accepted(text, output),
+    plan_within(text, output)
+}
+
+// So many bytes suffice for the plan of every text of that many bytes.
+pub fn output_size(text_len: usize) -> usize
+    ensures { λ r. ⌜ r ≡ outputSizeFor «text_len» ⌝ }
+{
+    (MOST_OTHER_LINES + at_most(text_len, TEXT_SIZE) / SHORTEST_GET) * LINE_SIZE
+}
+
+// The same where the output is as long as the caller has it. One that could be too short for a text of
+// that length is left as found.
+pub fn plan_to(text: &[u8], output: &mut [u8]) -> PlannedTo
+    ensures { λ r. ⌜ r ≡ plannedTo (now (text .entry)) (now (output .entry)) ⌝ }
+    ensures { λ _. ⌜ now (output .exit) ≡ outputTo (now (text .entry)) (now (output .entry)) ⌝ }
+{
+    if output.len() < output_size(text.len()) {
+        return PlannedTo::NoRoom;
+    }
+    match plan_within(text, output) {
+        Planned::Written(len) => PlannedTo::Written(len),
+        Planned::Refused(number) => PlannedTo::Refused(number),
     }
 }

@@ -10,7 +10,6 @@ use crate::line::OutputLine;
 use crate::line::put_line;
 use address_space::AddressSpaceManager;
 use address_space::AllocatedRange;
-use address_space::Vtl2RangeStep;
 use memory_range::MemoryRange;
 use private_pool::MAX_POOL_RANGES;
 
@@ -64,17 +63,16 @@ pub(crate) fn write_map_lines(output: &mut [u8], at: usize, manager: AddressSpac
     requires { ⌜ Room (length (mapLines (entriesOf manager))) at (now output) ⌝ }
     ensures { λ r. ⌜ Wrote (mapLines (entriesOf manager)) at (now (output .entry)) (now (output .exit)) r ⌝ }
 {
+    let list = manager.all_vtl2_ranges();
+    let count = list.count;
     let mut next = at;
-    let mut entry = 0;
-    loop {
-        match manager.vtl2_ranges(entry) {
-            Vtl2RangeStep::End => return next,
-            Vtl2RangeStep::Range(found, behind) => {
-                let range = found.range;
-                let vtl_type = found.vtl_type;
-                next = put_line(output, next, OutputLine::Map(range, vtl_type));
-                entry = behind;
-            }
-        }
+    let mut i = 0;
+    while i < count {
+        let found = list.ranges[i];
+        let range = found.range;
+        let vtl_type = found.vtl_type;
+        next = put_line(output, next, OutputLine::Map(range, vtl_type));
+        i += 1;
     }
+    next
 }

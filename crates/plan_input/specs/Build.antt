@@ -7,12 +7,25 @@ use lib.ListN.{length}
 use Rattle.memory_range.specs.declared.range.MemoryRange.{MemoryRange}
 use Rattle.memory_range.specs.Valid.{allValid}
 use Rattle.memory.specs.declared.builder.AddressSpaceManagerBuilder.{AddressSpaceManagerBuilder}
+use Rattle.memory.specs.declared.builder.OptionRange.{OptionRange}
 use Rattle.memory.specs.Builder.{singlesValid}
 use Rattle.plan_record.specs.declared.record.Record.{Record}
 use Rattle.plan_input.specs.declared.build.BuildRead.{BuildRead}
 use Rattle.plan_input.specs.Record.{recordsAt}
 use Rattle.plan_input.specs.Word.{behindWord, behindWords}
 use Rattle.plan_input.specs.Range.{rangeFirst, rangesFirst, orEmpty}
+
+-- the builder of the single ranges, of which two are to be there
+abbrev pub builderOf : OptionRange → OptionRange → OptionRange → OptionRange → OptionRange → OptionRange → AddressSpaceManagerBuilder
+builderOf used state keep side tables log =
+    record {
+      «bootshim_used» = orEmpty used;
+      «persisted_state_region» = orEmpty state;
+      «reserved_range» = keep;
+      «sidecar_image» = side;
+      «page_tables» = tables;
+      «log_buffer» = log;
+    }
 
 -- the single ranges, the config and the pool ranges, and the records behind them
 pub record BuildIn : Type 0 where
@@ -31,15 +44,7 @@ buildIn rs =
     let f = behindWord 9 e in
     let g = behindWord 10 f in
     record {
-      builder =
-          record {
-            «bootshim_used» = orEmpty (rangeFirst 4 rs);
-            «persisted_state_region» = orEmpty (rangeFirst 5 a);
-            «reserved_range» = rangeFirst 7 c;
-            «sidecar_image» = rangeFirst 8 d;
-            «page_tables» = rangeFirst 9 e;
-            «log_buffer» = rangeFirst 10 f;
-          };
+      builder = builderOf (rangeFirst 4 rs) (rangeFirst 5 a) (rangeFirst 7 c) (rangeFirst 8 d) (rangeFirst 9 e) (rangeFirst 10 f);
       configs = rangesFirst 6 b;
       pools = rangesFirst 11 g;
       rest = behindWords 11 g;

@@ -2,3 +2,4 @@
 pub mod Record
 pub mod Input
 pub mod Room
+pub mod Stores

@@ -1,21 +1,13 @@
 -- How much of each list is stored: one more than its row allows, so that a longer list is refused by that row
 -- (docs/SPEC.md, section 28).
 use Prim.Native.Nat.{ℕ, _+_}
-use mathlib.Core.List.{List}
-use lib.ListN.{replicate}
-use Rattle.host_params.specs.declared.MemoryEntry.{MemoryEntry}
 use Rattle.host_map.specs.Map.{maxEntries}
-use Rattle.host_map.specs.Entries.{noEntry}
 use Rattle.vtl2_ram.specs.Rows.{maxImports}
 use Rattle.memory.specs.Rows.{maxReserved}
 use Rattle.memory.specs.Used.{maxPools}
 
 abbrev pub mapRoom : ℕ
 mapRoom = maxEntries + 1
-
--- room for the map, before an entry is stored
-unfoldable pub noMap : List MemoryEntry
-noMap = replicate mapRoom noEntry
 
 abbrev pub importRoom : ℕ
 importRoom = maxImports + 1

@@ -1,6 +1,7 @@
 // The two records that hold neither a range nor an entry of the map, and stand once.
 ghost use mathlib.Core.Path.{_≡_};
 ghost use Rattle.plan_text.specs.Plan.{heldBy, shapeHeld, poolHeld};
+ghost use Rattle.plan_text.specs.Text.{checkFrom, recordsFrom};
 ghost use Rattle.plan_input.specs.Record.{recordsAt, behindOne};
 ghost use Rattle.plan_input.specs.Once.{firstOr, noShape, noPool, shapeFirst, poolFirst};
 use host_params::IsolationType;
@@ -12,15 +13,18 @@ use plan_record::Record;
 use plan_record::Shape;
 use plan_text::RecordStep;
 use plan_text::next_record;
+use plan_text::order_after;
 
 pub(crate) struct ShapeRead {
     pub shape: Shape,
     pub next: usize,
+    pub order: u8,
 }
 
 pub struct PoolRead {
     pub pool: Pool,
     pub next: usize,
+    pub order: u8,
 }
 
 fn shape_in(record: Record) -> Shape
@@ -42,18 +46,21 @@ fn no_shape() -> Shape
     }
 }
 
-pub(crate) fn read_shape(text: &[u8], at: usize) -> ShapeRead
+pub(crate) fn read_shape(text: &[u8], at: usize, order: u8) -> ShapeRead
     ensures { λ r. ⌜ r .shape ≡ shapeFirst (recordsAt (now (text .entry)) at) ⌝
-        ∗ ⌜ recordsAt (now (text .entry)) (r .next) ≡ behindOne (recordsAt (now (text .entry)) at) ⌝ }
+        ∗ ⌜ recordsAt (now (text .entry)) (r .next) ≡ behindOne (recordsAt (now (text .entry)) at) ⌝
+        ∗ ⌜ checkFrom (r .order) (recordsFrom (r .next) (now (text .entry))) ≡ checkFrom order (recordsFrom at (now (text .entry))) ⌝ }
 {
     match next_record(text, at) {
         RecordStep::Record(record, next) => ShapeRead {
             shape: shape_in(record),
             next,
+            order: order_after(order, record),
         },
         _ => ShapeRead {
             shape: no_shape(),
             next: at,
+            order,
         },
     }
 }
@@ -79,18 +86,21 @@ fn pool_in(record: Record) -> Pool
 }
 
 // The pool record at a place of the text.
-pub fn read_pool(text: &[u8], at: usize) -> PoolRead
+pub fn read_pool(text: &[u8], at: usize, order: u8) -> PoolRead
     ensures { λ r. ⌜ r .pool ≡ poolFirst (recordsAt (now (text .entry)) at) ⌝
-        ∗ ⌜ recordsAt (now (text .entry)) (r .next) ≡ behindOne (recordsAt (now (text .entry)) at) ⌝ }
+        ∗ ⌜ recordsAt (now (text .entry)) (r .next) ≡ behindOne (recordsAt (now (text .entry)) at) ⌝
+        ∗ ⌜ checkFrom (r .order) (recordsFrom (r .next) (now (text .entry))) ≡ checkFrom order (recordsFrom at (now (text .entry))) ⌝ }
 {
     match next_record(text, at) {
         RecordStep::Record(record, next) => PoolRead {
             pool: pool_in(record),
             next,
+            order: order_after(order, record),
         },
         _ => PoolRead {
             pool: no_pool(),
             next: at,
+            order,
         },
     }
 }

@@ -1,6 +1,7 @@
 // A record that holds a range and nothing else.
 ghost use mathlib.Core.Path.{_≡_};
 ghost use Rattle.memory_range.specs.Range.{range};
+ghost use Rattle.plan_text.specs.Text.{checkFrom, recordsFrom};
 ghost use Rattle.plan_input.specs.Record.{recordsAt};
 ghost use Rattle.plan_input.specs.Word.{behindWord};
 ghost use Rattle.plan_input.specs.Range.{rangeIn, rangeOf, rangeFirst, orEmpty};
@@ -31,10 +32,11 @@ pub(crate) const LOG: u8 = 10;
 
 pub(crate) const GPOOL: u8 = 11;
 
-// A range, if the record is there, and the place behind it.
+// A range, if the record is there, the place behind it, and the order that it leaves.
 pub(crate) struct RangeRead {
     pub range: OptionRange,
     pub next: usize,
+    pub order: u8,
 }
 
 // In the place of a range that is not there.
@@ -76,15 +78,17 @@ fn range_of(record: OptionRecord) -> OptionRange
 }
 
 // The range of the record at a place of the text, if it is one of that word.
-pub(crate) fn read_range(text: &[u8], at: usize, place: u8) -> RangeRead
+pub(crate) fn read_range(text: &[u8], at: usize, order: u8, place: u8) -> RangeRead
     ensures { λ r. ⌜ r .range ≡ rangeFirst place (recordsAt (now (text .entry)) at) ⌝
-        ∗ ⌜ recordsAt (now (text .entry)) (r .next) ≡ behindWord place (recordsAt (now (text .entry)) at) ⌝ }
+        ∗ ⌜ recordsAt (now (text .entry)) (r .next) ≡ behindWord place (recordsAt (now (text .entry)) at) ⌝
+        ∗ ⌜ checkFrom (r .order) (recordsFrom (r .next) (now (text .entry))) ≡ checkFrom order (recordsFrom at (now (text .entry))) ⌝ }
 {
-    let read = read_word(text, at, place);
+    let read = read_word(text, at, order, place);
     let record = read.record;
     RangeRead {
         range: range_of(record),
         next: read.next,
+        order: read.order,
     }
 }
 

@@ -23,6 +23,7 @@ use Rattle.host_params.specs.declared.OptionU64.{OptionU64}
 use Rattle.host_params.specs.declared.OptionU64.the-variants as u64
 use Rattle.host_params.specs.declared.OptionU32.{OptionU32}
 use Rattle.host_params.specs.declared.OptionU32.the-variants as u32
+use Rattle.plan_fields.specs.Cut.{tab}
 use Rattle.plan_fields.specs.Word.{sameBytes, after, lookup}
 use Rattle.plan_fields.specs.Number.{numberOf}
 use Rattle.plan_record.specs.declared.value.ModeField.{ModeField}
@@ -39,6 +40,8 @@ use Rattle.plan_record.specs.declared.value.SplitField.{SplitField}
 use Rattle.plan_record.specs.declared.value.SplitField.the-variants as split-field
 use Rattle.plan_record.specs.declared.value.OptionalField.{OptionalField}
 use Rattle.plan_record.specs.declared.value.OptionalField.the-variants as optional-field
+use Rattle.plan_record.specs.declared.value.OptionalPart.{OptionalPart}
+use Rattle.plan_record.specs.declared.value.OptionalPart.the-variants as optional-part
 use Rattle.plan_record.specs.declared.value.NodeField.{NodeField}
 use Rattle.plan_record.specs.declared.value.NodeField.the-variants as node-field
 use Rattle.plan_record.specs.declared.value.OptionalNodeField.{OptionalNodeField}
@@ -80,17 +83,30 @@ splitOf = lookup (((121 ∷ []), true) ∷ ((110 ∷ []), false) ∷ [])
 abbrev pub absent : List ℕ
 absent = 45 ∷ []
 
+-- the same with a tab behind it
+abbrev pub absentFirst : List ℕ
+absentFirst = 45 ∷ tab ∷ []
+
 -- a number, or absent
 abbrev pub optionalOf : List ℕ → Option OptionU64
 optionalOf f = cond (sameBytes f absent) (some u64.None) (after (numberOf f) (λ n. some (u64.Some n)))
 
--- a node: a number of at most ffffffff
+-- a number as a node: at most ffffffff
+abbrev pub nodeFrom : ℕ → Option ℕ
+nodeFrom n = cond (leb n 4294967295) (some n) none
+
+-- a node
 abbrev pub nodeOf : List ℕ → Option ℕ
-nodeOf f = after (numberOf f) (λ n. cond (leb n 4294967295) (some n) none)
+nodeOf f = after (numberOf f) nodeFrom
 
 -- a node, or absent
 abbrev pub optionalNodeOf : List ℕ → Option OptionU32
 optionalNodeOf f = cond (sameBytes f absent) (some u32.None) (after (nodeOf f) (λ n. some (u32.Some n)))
+
+-- the same of a number that may be absent
+abbrev pub optionalNodeFrom : OptionU64 → Option OptionU32
+optionalNodeFrom u64.None = some u32.None
+optionalNodeFrom (u64.Some n) = after (nodeFrom n) (λ node. some (u32.Some node))
 
 -- `pages`
 abbrev pub pagesWord : List ℕ
@@ -139,6 +155,10 @@ splitIn split-field.Malformed = none
 abbrev pub optionalIn : OptionalField → Option OptionU64
 optionalIn (optional-field.Is x) = some x
 optionalIn optional-field.Malformed = none
+
+abbrev pub optionalPartIn : OptionalPart → Option (OptionU64 × ℕ)
+optionalPartIn (optional-part.Is x size) = some (x, size)
+optionalPartIn optional-part.Malformed = none
 
 abbrev pub nodeIn : NodeField → Option ℕ
 nodeIn (node-field.Is x) = some x

@@ -1,6 +1,5 @@
 // A line as a record. Four records have fields of their own; the other ten have a start and an end.
 ghost use mathlib.Core.Path.{_≡_};
-ghost use lib.ListN.{length};
 ghost use Rattle.plan_fields.specs.Cut.{tab, splitOn};
 ghost use Rattle.plan_record.specs.Record.{recordIn, lineOf, recordOf, shapeOf, memOf, poolOf, getOf, rangeOf, rangeIn, rangeRecord};
 use super::value::ConfigField;
@@ -11,8 +10,10 @@ use super::value::ModeField;
 use super::value::NodeField;
 use super::value::OptionalField;
 use super::value::OptionalNodeField;
+use super::value::OptionalPart;
 use super::value::PolicyField;
 use super::value::SplitField;
+use super::value::first_optional;
 use super::value::read_entry_type;
 use super::value::read_isolation;
 use super::value::read_kind;
@@ -33,10 +34,11 @@ use host_params::OptionU64;
 use host_params::Vtl2GpaPoolConfig;
 use memory_range::MemoryRange;
 use plan_fields::NumberField;
+use plan_fields::NumberPart;
 use plan_fields::TAB;
+use plan_fields::first_number;
 use plan_fields::first_part;
 use plan_fields::later_parts;
-use plan_fields::part_count;
 use plan_fields::read_number;
 use plan_fields::same_bytes;
 
@@ -91,24 +93,23 @@ pub(crate) enum RangeFields {
     Malformed,
 }
 
-// The readers below are given the fields behind the word, once their count is known: fields are cut off
-// from the front, and the last one is all that is left.
+// The readers below are given the fields behind the word. They cut fields off from the front, and take
+// all that is left for the last. No field may be empty or hold a tab, so a line with a field too few or
+// too many breaks the form of a field, and they need not be counted.
 
 fn read_shape(fields: &[u8]) -> Line
-    requires { ⌜ length (splitOn tab (now fields)) ≡ 3 ⌝ }
     ensures { λ r. ⌜ recordIn r ≡ shapeOf (splitOn tab (now (fields .entry))) ⌝ }
 {
-    let mode = first_part(fields, TAB);
-    let behind_mode = later_parts(fields, mode.len());
-    let isolation = first_part(behind_mode, TAB);
-    let size = later_parts(behind_mode, isolation.len());
-    let ModeField::Is(mode) = read_mode(mode) else {
+    let field = first_part(fields, TAB);
+    let ModeField::Is(mode) = read_mode(field) else {
         return Line::Malformed;
     };
-    let IsolationField::Is(isolation) = read_isolation(isolation) else {
+    let behind_mode = later_parts(fields, field.len());
+    let field = first_part(behind_mode, TAB);
+    let IsolationField::Is(isolation) = read_isolation(field) else {
         return Line::Malformed;
     };
-    let OptionalField::Is(memory_size) = read_optional(size) else {
+    let OptionalField::Is(memory_size) = read_optional(later_parts(behind_mode, field.len())) else {
         return Line::Malformed;
     };
     Line::Record(Record::Shape(Shape {
@@ -119,36 +120,32 @@ fn read_shape(fields: &[u8]) -> Line
 }
 
 fn read_range(fields: &[u8]) -> RangeFields
-    requires { ⌜ length (splitOn tab (now fields)) ≡ 2 ⌝ }
     ensures { λ r. ⌜ rangeIn r ≡ rangeOf (splitOn tab (now (fields .entry))) ⌝ }
 {
-    let start = first_part(fields, TAB);
-    let end = later_parts(fields, start.len());
-    let NumberField::Number(start) = read_number(start) else {
+    let NumberPart::Number(start, size) = first_number(fields) else {
         return RangeFields::Malformed;
     };
-    let NumberField::Number(end) = read_number(end) else {
+    let NumberField::Number(end) = read_number(later_parts(fields, size)) else {
         return RangeFields::Malformed;
     };
     RangeFields::Is(MemoryRange { start, end })
 }
 
 fn read_mem(fields: &[u8]) -> Line
-    requires { ⌜ length (splitOn tab (now fields)) ≡ 4 ⌝ }
     ensures { λ r. ⌜ recordIn r ≡ memOf (splitOn tab (now (fields .entry))) ⌝ }
 {
-    let start = first_part(fields, TAB);
-    let behind_start = later_parts(fields, start.len());
-    let end = first_part(behind_start, TAB);
-    let behind_end = later_parts(behind_start, end.len());
-    let node = first_part(behind_end, TAB);
-    let entry_type = later_parts(behind_end, node.len());
-    let NumberField::Number(start) = read_number(start) else {
+    let NumberPart::Number(start, size) = first_number(fields) else {
         return Line::Malformed;
     };
-    let NumberField::Number(end) = read_number(end) else {
+    let behind_start = later_parts(fields, size);
+    let NumberPart::Number(end, size) = first_number(behind_start) else {
         return Line::Malformed;
     };
+    let behind_end = later_parts(behind_start, size);
+    let NumberPart::Number(node, size) = first_number(behind_end) else {
+        return Line::Malformed;
+    };
+    let entry_type = later_parts(behind_end, size);
     let NodeField::Is(vnode) = read_node(node) else {
         return Line::Malformed;
     };
@@ -163,27 +160,23 @@ fn read_mem(fields: &[u8]) -> Line
 }
 
 fn read_pool(fields: &[u8]) -> Line
-    requires { ⌜ length (splitOn tab (now fields)) ≡ 5 ⌝ }
     ensures { λ r. ⌜ recordIn r ≡ poolOf (splitOn tab (now (fields .entry))) ⌝ }
 {
     let kind = first_part(fields, TAB);
     let behind_kind = later_parts(fields, kind.len());
     let pages = first_part(behind_kind, TAB);
     let behind_pages = later_parts(behind_kind, pages.len());
-    let host_pages = first_part(behind_pages, TAB);
-    let behind_host = later_parts(behind_pages, host_pages.len());
-    let processors = first_part(behind_host, TAB);
-    let split = later_parts(behind_host, processors.len());
     let ConfigField::Is(config) = read_pool_config(kind, pages) else {
         return Line::Malformed;
     };
-    let OptionalField::Is(host_pages) = read_optional(host_pages) else {
+    let OptionalPart::Is(host_pages, size) = first_optional(behind_pages) else {
         return Line::Malformed;
     };
-    let NumberField::Number(processors) = read_number(processors) else {
+    let behind_host = later_parts(behind_pages, size);
+    let NumberPart::Number(processors, size) = first_number(behind_host) else {
         return Line::Malformed;
     };
-    let SplitField::Is(split) = read_split(split) else {
+    let SplitField::Is(split) = read_split(later_parts(behind_host, size)) else {
         return Line::Malformed;
     };
     Line::Record(Record::Pool(Pool {
@@ -195,30 +188,29 @@ fn read_pool(fields: &[u8]) -> Line
 }
 
 fn read_get(fields: &[u8]) -> Line
-    requires { ⌜ length (splitOn tab (now fields)) ≡ 5 ⌝ }
     ensures { λ r. ⌜ recordIn r ≡ getOf (splitOn tab (now (fields .entry))) ⌝ }
 {
-    let node = first_part(fields, TAB);
-    let behind_node = later_parts(fields, node.len());
-    let len = first_part(behind_node, TAB);
-    let behind_len = later_parts(behind_node, len.len());
-    let policy = first_part(behind_len, TAB);
-    let behind_policy = later_parts(behind_len, policy.len());
-    let kind = first_part(behind_policy, TAB);
-    let alignment = later_parts(behind_policy, kind.len());
+    let OptionalPart::Is(node, size) = first_optional(fields) else {
+        return Line::Malformed;
+    };
+    let behind_node = later_parts(fields, size);
     let OptionalNodeField::Is(required_vnode) = read_optional_node(node) else {
         return Line::Malformed;
     };
-    let NumberField::Number(len) = read_number(len) else {
+    let NumberPart::Number(len, size) = first_number(behind_node) else {
         return Line::Malformed;
     };
+    let behind_len = later_parts(behind_node, size);
+    let policy = first_part(behind_len, TAB);
     let PolicyField::Is(allocation_policy) = read_policy(policy) else {
         return Line::Malformed;
     };
+    let behind_policy = later_parts(behind_len, policy.len());
+    let kind = first_part(behind_policy, TAB);
     let KindField::Is(allocation_type) = read_kind(kind) else {
         return Line::Malformed;
     };
-    let OptionalField::Is(alignment) = read_optional(alignment) else {
+    let OptionalField::Is(alignment) = read_optional(later_parts(behind_policy, kind.len())) else {
         return Line::Malformed;
     };
     Line::Record(Record::Get(Get {
@@ -267,38 +259,21 @@ fn range_record(word: &[u8], range: MemoryRange) -> Line
     Line::Malformed
 }
 
-// The record that a word and the fields behind it make; count is the number of fields, the word not
-// among them.
-fn read_record<'a>(word: &'a [u8], fields: &'a [u8], count: usize) -> Line
-    requires { ⌜ length (splitOn tab (now fields)) ≡ count ⌝ }
+// The record that a word and the fields behind it make.
+fn read_record<'a>(word: &'a [u8], fields: &'a [u8]) -> Line
     ensures { λ r. ⌜ recordIn r ≡ recordOf (now (word .entry)) (splitOn tab (now (fields .entry))) ⌝ }
 {
     if same_bytes(word, b"shape") {
-        if count == 3 {
-            return read_shape(fields);
-        }
-        return Line::Malformed;
+        return read_shape(fields);
     }
     if same_bytes(word, b"mem") {
-        if count == 4 {
-            return read_mem(fields);
-        }
-        return Line::Malformed;
+        return read_mem(fields);
     }
     if same_bytes(word, b"pool") {
-        if count == 5 {
-            return read_pool(fields);
-        }
-        return Line::Malformed;
+        return read_pool(fields);
     }
     if same_bytes(word, b"get") {
-        if count == 5 {
-            return read_get(fields);
-        }
-        return Line::Malformed;
-    }
-    if count != 2 {
-        return Line::Malformed;
+        return read_get(fields);
     }
     match read_range(fields) {
         RangeFields::Is(range) => range_record(word, range),
@@ -310,10 +285,6 @@ fn read_record<'a>(word: &'a [u8], fields: &'a [u8], count: usize) -> Line
 pub fn read_line(line: &[u8]) -> Line
     ensures { λ r. ⌜ recordIn r ≡ lineOf (now (line .entry)) ⌝ }
 {
-    let count = part_count(line, TAB);
-    if count == 1 {
-        return Line::Malformed;
-    }
     let word = first_part(line, TAB);
-    read_record(word, later_parts(line, word.len()), count - 1)
+    read_record(word, later_parts(line, word.len()))
 }

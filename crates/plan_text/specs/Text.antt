@@ -15,6 +15,7 @@ use Rattle.plan_text.specs.declared.text.TextCheck.{TextCheck}
 use Rattle.plan_text.specs.declared.text.TextCheck.the-variants.{Accepted, Refused}
 use Rattle.plan_record.specs.Record.{lineOf}
 use Rattle.plan_text.specs.Order.{inOrder}
+use Rattle.plan_text.specs.OrderStep.{ordered}
 
 -- what stands behind the last newline is no line, and has to be empty
 abbrev pub lastPart : List ℕ → Option (List Record)
@@ -39,6 +40,11 @@ recordsFrom at text = recordsOf (drop at text)
 abbrev pub orderCheck : Option (List Record) → TextCheck
 orderCheck none = Refused lineMalformed
 orderCheck (some rs) = cond (inOrder rs) Accepted (Refused recordOrder)
+
+-- the same on the records that are left, at the order that those before them left
+abbrev pub checkFrom : ℕ → Option (List Record) → TextCheck
+checkFrom k none = Refused lineMalformed
+checkFrom k (some rs) = cond (ordered k rs) Accepted (Refused recordOrder)
 
 -- the most bytes that a text may have
 abbrev pub textSize : ℕ

@@ -57,8 +57,8 @@ fn may_repeat(place: u8) -> bool
     }
 }
 
-// The order after a record.
-pub(crate) fn order_after(order: u8, record: Record) -> u8
+// The order after a record. At the start of a text it is 0.
+pub fn order_after(order: u8, record: Record) -> u8
     ensures { λ r. ⌜ r ≡ orderAfter order (placeOf «record») ⌝ }
 {
     let place = record_place(record);

@@ -1,6 +1,6 @@
 // The text as a whole: going through its records, and the check of its form and order.
 ghost use mathlib.Core.Path.{_≡_};
-ghost use Rattle.plan_text.specs.Text.{textCheck, recordStep};
+ghost use Rattle.plan_text.specs.Text.{textCheck, checkFrom, recordsFrom, recordStep};
 ghost use Rattle.plan_text.specs.OrderStep.{orderEnd};
 use super::order::COMPLETE;
 use super::order::order_after;
@@ -51,16 +51,23 @@ pub fn check_text(text: &[u8]) -> TextCheck
     if TEXT_SIZE < text.len() {
         return TextCheck::Refused(refusal::TEXT_TOO_LONG);
     }
-    let mut order = 0;
-    let mut at = 0;
+    check_from(text, 0, 0)
+}
+
+// The same from a place of the text on, at the order that the records before it left; refusals 1 and 2.
+pub fn check_from(text: &[u8], at: usize, order: u8) -> TextCheck
+    ensures { λ r. ⌜ r ≡ checkFrom order (recordsFrom at (now (text .entry))) ⌝ }
+{
+    let mut after = order;
+    let mut next = at;
     loop {
-        match next_record(text, at) {
-            RecordStep::Record(record, next) => {
-                order = order_after(order, record);
-                at = next;
+        match next_record(text, next) {
+            RecordStep::Record(record, behind) => {
+                after = order_after(after, record);
+                next = behind;
             }
             RecordStep::Malformed => return TextCheck::Refused(refusal::LINE_MALFORMED),
-            RecordStep::End => return order_check(order),
+            RecordStep::End => return order_check(after),
         }
     }
 }

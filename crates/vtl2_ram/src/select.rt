@@ -1,10 +1,10 @@
-// Selection: the map is copied from the caller's list of entries, the rows of the chart are looked at in turn,
-// and then boot or host mode chooses.
+// Selection: the map is copied from the caller's list of entries, or lent as lists of its fields; the rows of the
+// chart are looked at in turn, and then boot or host mode chooses.
 ghost use mathlib.Core.Path.{_≡_};
 ghost use Prim.Native.Nat.{_≤_};
-ghost use lib.ListN.{take};
+ghost use lib.ListN.{length, take};
 ghost use Rattle.memory_range.specs.List.{rangesOf, taggedOf};
-ghost use Rattle.host_map.specs.Map.{maxEntries, mapOf, isProtectable, SameLengths};
+ghost use Rattle.host_map.specs.Map.{maxEntries, mapOf, SameLengths};
 ghost use Rattle.boot_nodes.specs.Node.{nodesCounted};
 ghost use Rattle.vtl2_ram.specs.Boot.{RowsPassed};
 ghost use Rattle.vtl2_ram.specs.Ram.{ramAs};
@@ -17,28 +17,22 @@ use crate::rows::check_rows;
 use boot_nodes::NumaNodes;
 use boot_nodes::numa_node_count;
 use boot_nodes::numa_nodes;
+use boot_nodes::numa_nodes_in;
 use host_map::Entries;
 use host_map::MAP_ROOM;
 use host_map::MAX_PARTITION_RAM_RANGES;
+use host_map::check_ranges;
 use host_map::copy_entries;
+use host_map::is_protectable;
 use host_params::IsolationType;
 use host_params::MemoryAllocationMode;
 use host_params::MemoryEntry;
-use host_params::MemoryMapEntryType;
 use host_params::OptionU64;
 use memory_range::MemoryRange;
 use memory_range::at_most;
+use memory_range::tagged_count;
 use refusal::Counted;
 use refusal::Rows;
-
-fn is_protectable(mem_type: MemoryMapEntryType) -> bool
-    ensures { λ r. ⌜ r ≡ isProtectable «mem_type» ⌝ }
-{
-    match mem_type {
-        MemoryMapEntryType::Vtl2Protectable => true,
-        MemoryMapEntryType::Memory => false,
-    }
-}
 
 // The copied entries as four lists of numbers and flags, in the first places of arrays: the walks of both
 // modes go over such lists.
@@ -199,6 +193,85 @@ pub fn select_from_array<'a>(
         ram_size,
         file,
         &entries[..count],
+        import_starts,
+        import_ends,
+    )
+}
+
+// How many entries four lists hold: as many as the shortest has elements.
+fn entry_count<'a>(
+    starts: &'a [u64],
+    ends: &'a [u64],
+    nodes: &'a [u32],
+    protectable: &'a [bool],
+) -> usize
+    ensures { λ r. ⌜ r ≡ length (mapOf (now (starts .entry)) (now (ends .entry)) (now (nodes .entry)) (now (protectable .entry))) ⌝ }
+{
+    at_most(tagged_count(starts, ends, nodes), protectable.len())
+}
+
+// From lists of one length: the rows, then the mode's own choice.
+fn select_within<'a>(
+    mode: MemoryAllocationMode,
+    isolation: IsolationType,
+    ram_size: OptionU64,
+    file: MemoryRange,
+    map_starts: &'a [u64],
+    map_ends: &'a [u64],
+    map_nodes: &'a [u32],
+    map_protectable: &'a [bool],
+    import_starts: &'a [u64],
+    import_ends: &'a [u64],
+) -> Vtl2Ram
+    requires { ⌜ SameLengths (now «map_starts») (now «map_ends») (now «map_nodes») (now «map_protectable») ⌝ }
+    ensures { λ r. ⌜ r ≡ ramAs (choice mode isolation «ram_size» file (mapOf (now («map_starts» .entry)) (now («map_ends» .entry)) (now («map_nodes» .entry)) (now («map_protectable» .entry))) (rangesOf (now («import_starts» .entry)) (now («import_ends» .entry)))) ⌝ }
+{
+    let check = check_ranges(map_starts, map_ends);
+    let count = map_starts.len();
+    match check_rows(mode, file, check, count, import_starts, import_ends) {
+        Rows::Refused(number) => refused_ram(number),
+        Rows::Passed => select_listed(
+            mode,
+            isolation,
+            ram_size,
+            file,
+            map_starts,
+            map_ends,
+            map_nodes,
+            map_protectable,
+            numa_node_count(numa_nodes_in(map_nodes)),
+            import_starts,
+            import_ends,
+        ),
+    }
+}
+
+// The same from lists of the fields of the map's entries, for a caller that holds them so: nothing is copied.
+// Of lists that differ in length the shortest tells how many entries there are.
+pub fn select_from_lists<'a>(
+    mode: MemoryAllocationMode,
+    isolation: IsolationType,
+    ram_size: OptionU64,
+    file: MemoryRange,
+    map_starts: &'a [u64],
+    map_ends: &'a [u64],
+    map_nodes: &'a [u32],
+    map_protectable: &'a [bool],
+    import_starts: &'a [u64],
+    import_ends: &'a [u64],
+) -> Vtl2Ram
+    ensures { λ r. ⌜ r ≡ ramAs (choice mode isolation «ram_size» file (mapOf (now («map_starts» .entry)) (now («map_ends» .entry)) (now («map_nodes» .entry)) (now («map_protectable» .entry))) (rangesOf (now («import_starts» .entry)) (now («import_ends» .entry)))) ⌝ }
+{
+    let count = entry_count(map_starts, map_ends, map_nodes, map_protectable);
+    select_within(
+        mode,
+        isolation,
+        ram_size,
+        file,
+        &map_starts[..count],
+        &map_ends[..count],
+        &map_nodes[..count],
+        &map_protectable[..count],
         import_starts,
         import_ends,
     )

@@ -2,13 +2,14 @@
 use Prim.Native.Nat.{ℕ, _+_, _-_, _^_, _≤_, _<_}
 use mathlib.Core.Path.{_≡_, refl}
 use mathlib.Core.Bool.{true, false}
-use mathlib.Core.List.{List}
+use mathlib.Core.List.{List, [], _∷_}
 use mathlib.Core.Option.{Option, none, some}
 use native.Mathlib.Decide.{decLt}
 use native.Mathlib.Omega.{arith}
 use borrow.Author.Tests.{eq-eqb, ne-eqb, lt-ltb, le-ltb}
 use lib.ListN.{length, take, drop, getD}
 use Rattle.refusal.specs.Number.{lengthZero, lengthTooLarge, alignmentInvalid, noFit}
+use Rattle.refusal.specs.Rows.{downward}
 use Rattle.memory_range.specs.declared.round.RoundedUp.the-variants.{To, TooLarge}
 use Rattle.memory_range.specs.Round.{roundUp, roundedUp}
 use Rattle.memory_range.specs.Valid.{pageSize}
@@ -23,7 +24,7 @@ use Rattle.address_space.specs.declared.search.Place.the-variants.{At, N
 use Rattle.address_space.specs.declared.table.AddressRange.{AddressRange}
 use Rattle.address_space.specs.declared.table.AddressSpaceManager.{AddressSpaceManager}
 use Rattle.address_space.specs.Fit.{fitsIn}
-use Rattle.address_space.specs.Request.{Outcome, refused, handed, alignmentGood, rowsRefusal, placed, placedFrom, allocated, unless, requested, lengthAs, allocationAs}
+use Rattle.address_space.specs.Request.{Outcome, refused, handed, alignmentGood, rowsRefusal, placed, placedFrom, allocated, unless, requested, lengthAs, allocationAs, missed, searchRefusal}
 use Rattle.address_space.specs.Search.{Search, nothing, found, searched, belowIn, placeFound}
 use Rattle.address_space.specs.Table.{noEntry}
 use Rattle.address_space.specs.Laws.Search.{found-at}
@@ -113,3 +114,47 @@ module _ (asked : OptionU32) (len : ℕ) (type : AllocationType) (policy : Alloc
 pub refused-as-found : (m : AddressSpaceManager) (type : AllocationType) (o : Outcome) (n : ℕ) → allocationAs m type o .answer ≡ Refused n → allocationAs m type o .manager ≡ m
 refused-as-found m type (refused k) n h = refl
 refused-as-found m type (handed x es) n h = cc
+
+-- rows 22 to 25 by the tests of the code, and what they refuse is refused
+missed-nowhere : (policy : AllocationPolicy) (s : Search AddressRange) → placeFound policy s ≡ Nowhere → missed s ≡ some noFit
+missed-nowhere policy nothing h = refl
+missed-nowhere policy (found before x after) h = cc
+
+missed-at : (policy : AllocationPolicy) (s : Search AddressRange) (at : ℕ) → placeFound policy s ≡ At at → missed s ≡ none
+missed-at policy nothing at h = cc
+missed-at policy (found before x after) at h = refl
+
+first-refused : (o : Option ℕ) (k n : ℕ) (m : Option ℕ) → lengthAs o k ≡ length-answer.Refused n → downward (o ∷ m ∷ []) ≡ some n
+first-refused none k n m h = cc
+first-refused (some r) k n m h = cc
+
+second-refused : (o : Option ℕ) (k n : ℕ) (f : ℕ → Option ℕ) → lengthAs o k ≡ length-answer.Rounded n → downward (o ∷ f k ∷ []) ≡ downward (f n ∷ [])
+second-refused none k n f h = cc
+second-refused (some r) k n f h = cc
+
+missed-refused : (len : ℕ) (type : AllocationType) (policy : AllocationPolicy) (alignment : OptionU64) (o : Option ℕ) (s : Search AddressRange) (n : ℕ)
+    → downward (o ∷ missed s ∷ []) ≡ some n → unless o (placedFrom len type policy alignment s) ≡ refused n
+missed-refused len type policy alignment (some r) s n h = cc
+missed-refused len type policy alignment none nothing n h = cc
+missed-refused len type policy alignment none (found before x after) n h = cc
+
+module _ (asked : OptionU32) (len : ℕ) (policy : AllocationPolicy) (alignment : OptionU64) (es : List AddressRange) where
+  pub search-rows : (n : ℕ) → lengthAs (rowsRefusal len alignment) (roundUp pageSize len) ≡ length-answer.Refused n
+      → searchRefusal asked len policy alignment es ≡ some n
+  search-rows n h = first-refused (rowsRefusal len alignment) (roundUp pageSize len) n (missed (searched policy (fitsIn asked (roundUp pageSize len) alignment) es)) h
+
+  module _ (k : ℕ) (to : lengthAs (rowsRefusal len alignment) (roundUp pageSize len) ≡ length-answer.Rounded k) where
+    search-rounded : searchRefusal asked len policy alignment es ≡ downward (missed (searched policy (fitsIn asked k alignment) es) ∷ [])
+    search-rounded = second-refused (rowsRefusal len alignment) (roundUp pageSize len) k (λ n. missed (searched policy (fitsIn asked n alignment) es)) to
+
+    pub search-nowhere : placeFound policy (searched policy (fitsIn asked k alignment) es) ≡ Nowhere → searchRefusal asked len policy alignment es ≡ some noFit
+    search-nowhere h = rw (search-rounded, missed-nowhere policy (searched policy (fitsIn asked k alignment) es) h)
+
+    pub search-at : (at : ℕ) → placeFound policy (searched policy (fitsIn asked k alignment) es) ≡ At at → searchRefusal asked len policy alignment es ≡ none
+    search-at at h = rw (search-rounded, missed-at policy (searched policy (fitsIn asked k alignment) es) at h)
+
+  pub search-refused : (type : AllocationType) (n : ℕ) → searchRefusal asked len policy alignment es ≡ some n
+      → requested asked len type policy alignment es ≡ refused n
+  unfolding requested allocated
+  search-refused type n h =
+      missed-refused (roundUp pageSize len) type policy alignment (rowsRefusal len alignment) (searched policy (fitsIn asked (roundUp pageSize len) alignment) es) n h

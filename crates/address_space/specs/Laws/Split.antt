@@ -11,7 +11,7 @@ use native.Mathlib.Omega.{arith}
 use borrow.Author.Tests.{lt-ltb, le-ltb}
 use lib.Dec.{ltb}
 use lib.ListN.{length, take, drop, getD, set, length-append, length-take, length-drop, take-append-drop, drop-of-length-le, List·getD-append}
-use lib.Seq.{length-take-le, take-take, take-append-le, take-append-seam, take-at, drop-at, drop-cons, take-suc, set-at, getD-take, sets, sets-eq}
+use lib.Seq.{length-take-le, take-take, take-append-le, take-append-seam, drop-at, drop-cons, take-suc, set-at, set-set, getD-take, sets, sets-eq}
 use Rattle.refusal.specs.Number.{tableFull}
 use Rattle.memory_range.specs.declared.range.MemoryRange.{MemoryRange}
 use Rattle.memory_range.specs.Bytes.{holders}
@@ -24,12 +24,13 @@ use Rattle.host_params.specs.declared.AllocationType.{AllocationType}
 use Rattle.host_params.specs.declared.OptionU64.{OptionU64}
 use Rattle.address_space.specs.declared.request.Allocated.the-variants.{Range}
 use Rattle.address_space.specs.declared.request.Allocation.{Allocation}
+use Rattle.address_space.specs.declared.split.SplitParts.{SplitParts}
 use Rattle.address_space.specs.declared.table.AddressRange.{AddressRange}
 use Rattle.address_space.specs.declared.table.AddressSpaceManager.{AddressSpaceManager}
 use Rattle.address_space.specs.declared.usage.AddressUsage.{AddressUsage}
 use Rattle.address_space.specs.Fit.{alignedTo}
 use Rattle.address_space.specs.Request.{refusedWith, allocationAs, placed}
-use Rattle.address_space.specs.Split.{allotted, freeEntry, handedOut, leftFree, partCount, splitEntry}
+use Rattle.address_space.specs.Split.{allotted, freeEntry, handedOut, leftFree, partCount, splitEntry, partsOf}
 use Rattle.address_space.specs.Table.{maxAddressRanges, entriesOf, poolOf, tableWith, noEntry, rangesAt}
 use Rattle.address_space.specs.Usage.{usageFor, isPool}
 
@@ -39,16 +40,13 @@ allotted-all len r h =
     let z : lengthOf r - len ≡ 0 = omega arith in
     ap (λ (n : ℕ). splitAt r n .right) (sym z)
 
--- a remainder needs at most one entry, and one where it has a byte
+-- a remainder needs at most one entry
 pub part-one : (s e : ℕ) → partCount s e ≤ 1
 part-one s e = go (ltb s e)
   where
     go : (t : Bool) → cond t 1 0 ≤ 1
     go true = omega arith
     go false = omega arith
-
-pub part-some : (s e : ℕ) → s < e → partCount s e ≡ 1
-part-some s e h = rw (lt-ltb s e h)
 
 -- what is left free has as many entries as are counted
 left-length : (n s e : ℕ) → length (leftFree n s e) ≡ partCount s e
@@ -103,29 +101,6 @@ module _ {A : Type 0} where
         in
         rw (g, p, set-at, q, append-assoc)
 
-    -- the three parts of the list moved, from the whole and back
-    module _ (f : ℕ) (l′ : List A) (low : f ≤ k) where
-      front : length (take (f + by) l) ≡ f + by
-      front = length-take-le (f + by) l (omega arith)
-
-      fronts : length (take (f + by) l ++ drop f (take k l)) ≡ k + by
-      fronts = simp (length-append, length-drop, length-take) (omega arith)
-
-      pub moved-parts : l′ ≡ movedUp f k by l
-          → (take (f + by) l′ ≡ take (f + by) l) × (drop (f + by) (take (k + by) l′) ≡ drop f (take k l)) × (drop (k + by) l′ ≡ drop (k + by) l)
-      moved-parts e =
-          let g = front in
-          let h = fronts in
-          (rw (e, append-assoc, take-at), rw (e, take-at, drop-at), rw (e, drop-at))
-
-      pub moved-whole : take (f + by) l′ ≡ take (f + by) l → drop (f + by) (take (k + by) l′) ≡ drop f (take k l)
-          → drop (k + by) l′ ≡ drop (k + by) l
-          → l′ ≡ movedUp f k by l
-      moved-whole p q r =
-          let h : f + by ≤ k + by = omega arith in
-          let t : take (f + by) (take (k + by) l′) ≡ take (f + by) l = take-take (f + by) (k + by) l′ h ∙ p in
-          rw (← q, ← r, ← t) (sym (rw take-append-drop (take-append-drop (k + by) l′)))
-
     -- the parts stored from at on, in the place of the element at at
     stored-parts : (at : ℕ) (parts l′ : List A) → at < k → length parts ≡ 1 + by → l′ ≡ movedUp (at + 1) k by l
         → sets l′ at parts ≡ take at (take k l) ++ parts ++ drop (at + 1) (take k l) ++ drop (k + by) l
@@ -141,37 +116,22 @@ module _ {A : Type 0} where
         in
         sets-eq parts l′ at (omega arith) ∙ rw (z, d, t) (simp append-assoc)
 
-  -- stores of two runs, one after the other
-  sets-append : (l : List A) (i : ℕ) (xs ys : List A) → sets l i (xs ++ ys) ≡ sets (sets l i xs) (i + length xs) ys
-  sets-append l i [] ys = rw add-zero
-  sets-append l i (x ∷ xs) ys =
-      let z : i + suc (length xs) ≡ suc i + length xs = omega arith in
-      sets-append (set l i x) (suc i) xs ys ∙ rw z
-
-  -- a run, an element and a run stored one after the other
-  stored-runs : (l l₁ l₂ : List A) (i j : ℕ) (xs : List A) (y : A) (ys : List A) → length xs ≡ j → l₁ ≡ sets l i xs
-      → l₂ ≡ sets (set l₁ (i + j) y) (i + j + 1) ys → l₂ ≡ sets l i (xs ++ y ∷ ys)
-  stored-runs l l₁ l₂ i j xs y ys n p q = q ∙ rw (sets-append, n, p, add-one)
+  -- an element stored, with one in front of it or none and one behind it or none: the first, itself and the last of
+  -- them stored one after the other
+  stored-three : (l : List A) (at : ℕ) (f h g : A) (s t : Bool)
+      → set (set (set l at (cond s f h)) (at + cond s 1 0) h) (at + (cond s 1 0 + cond t 1 0)) (cond t g h)
+      ≡ sets l at (cond s (f ∷ []) [] ++ h ∷ cond t (g ∷ []) [])
+  stored-three l at f h g true true =
+      let y : at + 1 ≡ suc at = omega arith in
+      let z : at + 2 ≡ suc (suc at) = omega arith in
+      rw (y, z)
+  stored-three l at f h g true false = let y : at + 1 ≡ suc at = omega arith in rw (y, set-set)
+  stored-three l at f h g false true = let y : at + 1 ≡ suc at = omega arith in rw (add-zero, y, set-set)
+  stored-three l at f h g false false = rw (add-zero, set-set, set-set)
 
 -- the entry at an index of the table is the array's
 pub entry-at : (k at : ℕ) (l : List AddressRange) → at < length (take k l) → getD (take k l) at noEntry ≡ getD l at noEntry
 entry-at k at l h = getD-take k l at noEntry (omega (arith, length-take k l))
-
--- a part left free is stored, or is none
-pub stored-free : (n s e i : ℕ) (l : List AddressRange) → s < e → set l i (freeEntry n (range s e)) ≡ sets l i (leftFree n s e)
-stored-free n s e i l h = rw (lt-ltb s e h)
-
-pub stored-none : (n s e i : ℕ) (l : List AddressRange) → e ≤ s → l ≡ sets l i (leftFree n s e)
-stored-none n s e i l h = rw (le-ltb s e h)
-
--- there is room for the parts of the array's entry where there is for those of the table's
-pub room : (m : AddressSpaceManager) (at : ℕ) (used : MemoryRange)
-    → (at < length (entriesOf m))
-    × (length (entriesOf m) + (partCount (getD (entriesOf m) at noEntry .range .start) (used .start)
-    + partCount (used .end) (getD (entriesOf m) at noEntry .range .end)) ≤ maxAddressRanges)
-    → length (entriesOf m) + (partCount (getD (m .«address_space») at noEntry .range .start) (used .start)
-    + partCount (used .end) (getD (m .«address_space») at noEntry .range .end)) ≤ maxAddressRanges
-room m at used h = rw (entry-at (m .count) at (m .«address_space») (h .0)) at (h .1)
 
 -- the table with an entry split has so many more
 pub split-total : (at : ℕ) (l : List AddressRange) (used : MemoryRange) (usage : AddressUsage) (e : AddressRange) → at < length l
@@ -181,46 +141,43 @@ split-total at l used usage e h =
     simp (length-append (take at l ++ splitEntry used usage e), length-append (take at l), length-take, length-drop, split-length)
     (omega arith)
 
--- what the stores of a split leave, in an array in which the entries above were moved up
-module _ (k at count added below : ℕ) (l l′ l₁ l₂ : List AddressRange) (used : MemoryRange) (usage : AddressUsage) (e : AddressRange)
+-- what is below the range handed out is among what is added, and that is two at most
+pub parts-few : (used : MemoryRange) (usage : AddressUsage) (e : AddressRange) (p : SplitParts) → p ≡ partsOf used usage e
+    → (p .below ≤ p .added) × (p .added ≤ 2)
+parts-few used usage e p q =
+    let low = part-one (e .range .start) (used .start) in
+    let high = part-one (used .end) (e .range .end) in
+    rw q (omega arith, omega arith)
+
+-- what the stores of a split's parts leave, in an array in which the entries above were moved up
+module _ (k at count : ℕ) (l l′ : List AddressRange) (used : MemoryRange) (usage : AddressUsage) (e : AddressRange) (parts : SplitParts)
     (within : at < length (take k l))
     (counted : count ≡ length (take k l))
-    (below-it : below ≡ partCount (e .range .start) (used .start))
-    (more : added ≡ partCount (e .range .start) (used .start) + partCount (used .end) (e .range .end)) where
-  pub split-stored : count + added ≤ length l
-      → take (at + 1 + added) l′ ≡ take (at + 1 + added) l
-      → drop (at + 1 + added) (take (count + added) l′) ≡ drop (at + 1) (take count l)
-      → drop (count + added) l′ ≡ drop (count + added) l
-      → l₁ ≡ sets l′ at (leftFree (e .vnode) (e .range .start) (used .start))
-      → l₂ ≡ sets (set l₁ (at + below) (handedOut (e .vnode) usage used)) (at + below + 1) (leftFree (e .vnode) (used .end) (e .range .end))
-      → l₂ ≡ take at (take k l) ++ splitEntry used usage e ++ drop (at + 1) (take k l) ++ drop (count + added) l
-  split-stored fits p q r s t =
-      let whole = moved-whole count added l fits (at + 1) l′ (omega arith) p q r in
-      let n : length (splitEntry used usage e) ≡ 1 + added = rw (split-length used usage e, more) in
+    (split : parts ≡ partsOf used usage e) where
+  split-stored : count + parts .added ≤ length l → l′ ≡ movedUp (at + 1) count (parts .added) l
+      → set (set (set l′ at (parts .first)) (at + parts .below) (parts .used)) (at + parts .added) (parts .last)
+      ≡ take at (take k l) ++ splitEntry used usage e ++ drop (at + 1) (take k l) ++ drop (count + parts .added) l
+  split-stored fits moved =
       let same : take count l ≡ take k l = rw (counted, take-counted k l) in
-      let low = leftFree (e .vnode) (e .range .start) (used .start) in
-      let high = leftFree (e .vnode) (used .end) (e .range .end) in
-      let m = left-length (e .vnode) (e .range .start) (used .start) ∙ sym below-it in
-      stored-runs l′ l₁ l₂ at below low (handedOut (e .vnode) usage used) high m s t
-      ∙ stored-parts count added l fits at (splitEntry used usage e) l′ (omega arith) n whole
+      let low = freeEntry (e .vnode) (range (e .range .start) (used .start)) in
+      let high = freeEntry (e .vnode) (range (used .end) (e .range .end)) in
+      let below = ltb (e .range .start) (used .start) in
+      let above = ltb (used .end) (e .range .end) in
+      let n : length (splitEntry used usage e) ≡ 1 + parts .added = rw split (split-length used usage e) in
+      rw split (stored-three l′ at low (handedOut (e .vnode) usage used) high below above)
+      ∙ stored-parts count (parts .added) l fits at (splitEntry used usage e) l′ (omega arith) n moved
       ∙ rw same
 
--- a table by its three fields
-pub table-of : (m : AddressSpaceManager) (es l : List AddressRange) (count : ℕ) (flag : Bool) → count ≡ length es
-    → l ≡ es ++ drop count (m .«address_space») → flag ≡ poolOf m
-    → _≡_ {A = AddressSpaceManager} (record { «address_space» = l; count = count; «vtl2_pool» = flag }) (tableWith m es (poolOf m))
-table-of m es l count flag p q r = rw (q, r, p)
-
--- the answer to a request that is placed at an index, where used is what the array's entry there gives
+-- the answer to a request that is placed at an index, where used is what the array's entry there gives, and parts are
+-- those of its split
 module _ (m : AddressSpaceManager) (at len : ℕ) (type : AllocationType) (policy : AllocationPolicy) (alignment : OptionU64) (used : MemoryRange)
+    (parts : SplitParts) (count : ℕ)
     (within : at < length (entriesOf m))
-    (given : used ≡ allotted policy len (alignedTo alignment (getD (m .«address_space») at noEntry .range))) where
+    (counted : count ≡ length (entriesOf m))
+    (given : used ≡ allotted policy len (alignedTo alignment (getD (m .«address_space») at noEntry .range)))
+    (split : parts ≡ partsOf used (usageFor type) (getD (m .«address_space») at noEntry)) where
   abbrev chosen : AddressRange
   chosen = getD (m .«address_space») at noEntry
-
-  -- how many entries there are afterwards
-  abbrev total : ℕ
-  total = length (entriesOf m) + (partCount (chosen .range .start) (used .start) + partCount (used .end) (chosen .range .end))
 
   abbrev placedAt : Allocation
   placedAt =
@@ -230,26 +187,41 @@ module _ (m : AddressSpaceManager) (at len : ℕ) (type : AllocationType) (polic
   abbrev after : List AddressRange
   after = take at (entriesOf m) ++ splitEntry used (usageFor type) chosen ++ drop (at + 1) (entriesOf m)
 
+  -- how many entries there are afterwards
+  total : length after ≡ count + parts .added
+  total = rw (split, counted) (split-total at (entriesOf m) used (usageFor type) chosen within)
+
   -- the parts are too many
-  pub placed-full : maxAddressRanges < total → refusedWith m tableFull ≡ placedAt
+  pub placed-full : maxAddressRanges < count + parts .added → refusedWith m tableFull ≡ placedAt
   placed-full h =
-      let t = split-total at (entriesOf m) used (usageFor type) chosen within in
+      let t = total in
       rw (entry-at (m .count) at (m .«address_space») within, ← given, lt-ltb maxAddressRanges (length after) (omega arith))
 
-  -- they are not, and m′ is the table after the split
-  pub placed-within : (m′ : AddressSpaceManager) (usage : AddressUsage) (flag : Bool) → total ≤ maxAddressRanges
-      → m′ ≡ tableWith m (take at (entriesOf m) ++ splitEntry used usage (getD (entriesOf m) at noEntry) ++ drop (at + 1) (entriesOf m)) (poolOf m)
-      → usage ≡ usageFor type
+  -- they are not, and are stored in an array in which the entries above were moved up
+  pub placed-within : (l : List AddressRange) (flag : Bool) → count + parts .added ≤ maxAddressRanges
+      → length (m .«address_space») ≡ maxAddressRanges
+      → l ≡ movedUp (at + 1) count (parts .added) (m .«address_space»)
       → flag ≡ (poolOf m || isPool type)
       → _≡_ {A = Allocation}
       (record {
         answer = Range (record { range = used; vnode = chosen .vnode });
-        manager = record { «address_space» = m′ .«address_space»; count = m′ .count; «vtl2_pool» = flag };
+        manager = record {
+          «address_space» = set (set (set l at (parts .first)) (at + parts .below) (parts .used)) (at + parts .added) (parts .last);
+          count = count + parts .added;
+          «vtl2_pool» = flag;
+        };
       })
       placedAt
-  placed-within m′ usage flag h p q f =
-      let t = split-total at (entriesOf m) used (usageFor type) chosen within in
-      rw (p, q, entry-at (m .count) at (m .«address_space») within, ← given, le-ltb maxAddressRanges (length after) (omega arith), f)
+  placed-within l flag h n moved f =
+      let t = total in
+      rw (
+        entry-at (m .count) at (m .«address_space») within,
+        ← given,
+        le-ltb maxAddressRanges (length after) (omega arith),
+        f,
+        t,
+        split-stored (m .count) at count (m .«address_space») l used (usageFor type) chosen parts within counted split (omega arith) moved,
+      )
 
 -- what is left free, in front of other entries, holds each of its bytes once
 left-holders : (n s t : ℕ) (rest : List AddressRange) (a : ℕ)

@@ -21,4 +21,5 @@ replay-text-spec =
     (search needs)
     (search needs)
     (search needs)
+    (search needs)
     (search needs))

@@ -13,14 +13,11 @@ use Rattle.memory_range.specs.Laws.List.{length-first, next-tagged}
 use Rattle.host_params.specs.declared.MemoryVtlType.{MemoryVtlType}
 use Rattle.host_params.specs.declared.MemoryVtlType.the-variants as vtl
 use Rattle.address_space.specs.declared.list.Vtl2Range.{Vtl2Range}
-use Rattle.address_space.specs.declared.list.Vtl2RangeStep.{Vtl2RangeStep}
-use Rattle.address_space.specs.declared.list.Vtl2RangeStep.the-variants as step
 use Rattle.address_space.specs.declared.request.AllocatedRange.{AllocatedRange}
-use Rattle.address_space.specs.declared.table.AddressRange.{AddressRange}
-use Rattle.address_space.specs.List.{vtl2Ranges, vtl2Stepped}
+use Rattle.address_space.specs.List.{numberedRanges}
 use Rattle.address_space.specs.Usage.{typeNumber}
 use Rattle.plan.specs.declared.line.OutputLine.the-variants.{Ram, Pool, Map}
-use Rattle.plan.specs.Write.{ramLines, poolLines, typeOf, typedLines, mapLines}
+use Rattle.plan.specs.Write.{ramLines, poolLines, typeOf, typedLines}
 
 -- the RAM: k lines, the one at an index and those behind it, and none behind the last
 ram-length : (xs : List TaggedRange) → length (ramLines xs) ≡ length xs
@@ -75,11 +72,21 @@ type-again vtl.BootshimLogBuffer = refl
 type-again vtl.PersistedStateHeader = refl
 type-again vtl.PersistedStatePayload = refl
 
--- the table, by what a step through it answers
-module _ (es : List AddressRange) (at : ℕ) {r : Vtl2RangeStep} (e : vtl2Ranges (drop at es) ≡ vtl2Stepped es r) where
-  pub map-next : {x : Vtl2Range} {next : ℕ} → r ≡ step.Range x next
-      → mapLines (drop at es) ≡ Map (x .range) (x .«vtl_type») ∷ mapLines (drop next es)
-  map-next {x} s = ap typedLines (e ∙ ap (vtl2Stepped es) s) ∙ rw (type-again (x .«vtl_type»))
+-- the range that an array's free places hold at first
+abbrev pub noTyped : Vtl2Range
+noTyped = record { range = range 0 0; «vtl_type» = vtl.Ram }
 
-  pub map-past : r ≡ step.End → mapLines (drop at es) ≡ []
-  map-past s = ap typedLines (e ∙ ap (vtl2Stepped es) s)
+-- the joined ranges of a table, by those that are handed over
+module _ (k : ℕ) (xs : List Vtl2Range) (enough : k ≤ length xs) where
+  pub map-next : (i : ℕ) (x : Vtl2Range) → i < k
+      → typedLines (numberedRanges (drop i (take k xs)))
+      ≡ Map (getD xs i x .range) (getD xs i x .«vtl_type») ∷ typedLines (numberedRanges (drop (i + 1) (take k xs)))
+  map-next i x h =
+      let n = length-take-le k xs enough in
+      rw add-one
+      (ap (λ (l : List Vtl2Range). typedLines (numberedRanges l)) (drop-cons (take k xs) i x (omega arith))
+      ∙ rw (getD-take k xs i x h, type-again (getD xs i x .«vtl_type»)))
+
+  pub map-past : (i : ℕ) → k ≤ i → typedLines (numberedRanges (drop i (take k xs))) ≡ []
+  map-past i h =
+      ap (λ (l : List Vtl2Range). typedLines (numberedRanges l)) (drop-of-length-le (take k xs) {i = i} (omega (arith, length-take-le k xs enough)))

@@ -1,6 +1,6 @@
 -- A plan has few lines, so that the output has room for them: at most 64 of the RAM and 64 of the pool, as many of requests as a text has
 -- room for, and at most 256 of the table.
-use Prim.Native.Nat.{ℕ, suc, _+_, _≤_}
+use Prim.Native.Nat.{ℕ, suc, _+_, _≤_, min}
 use mathlib.Core.Path.{_≡_, refl, ap, _∙_}
 use mathlib.Core.Bool.{Bool, true, false, cond}
 use mathlib.Core.List.{List, [], _∷_, _++_}
@@ -32,6 +32,7 @@ use Rattle.memory.specs.Rows.{maxRam}
 use Rattle.memory_claims.specs.Laws.Build.{build-claimed}
 use Rattle.ledger.specs.Laws.Nodes.{built-nodes}
 use Rattle.plan_record.specs.declared.record.Get.{Get}
+use Rattle.plan_text.specs.Text.{textSize}
 use Rattle.plan_input.specs.Input.{Input}
 use Rattle.private_pool.specs.Piece.{tableNodes, PoolPiece, piece, splitPieces}
 use Rattle.private_pool.specs.Pool.{Placement, placed, pieceOn, inFront, afterPiece, placePieces, splitBad, splitPlaced, wholeTried, wholeOr, pagesBound, poolPlaced}
@@ -66,9 +67,12 @@ entry-count : (es : List AddressRange) → length (typedRanges es) ≡ length es
 entry-count [] = refl
 entry-count (e ∷ es) = omega (arith, entry-count es)
 
--- a table has no more lines than entries
+-- a table has no more joined ranges than entries, and no more lines
+pub joined-few : (es : List AddressRange) → length (vtl2Ranges es) ≤ length es
+joined-few es = omega (arith, merge-count (typedRanges es), entry-count es)
+
 map-few : (es : List AddressRange) → length (mapLines es) ≤ length es
-map-few es = omega (arith, typed-count (vtl2Ranges es), merge-count (typedRanges es), entry-count es)
+map-few es = omega (arith, typed-count (vtl2Ranges es), joined-few es)
 
 -- entries that a request leaves are no more than a table holds, where those that it met are not
 abbrev Few : Outcome → Type 0
@@ -194,8 +198,8 @@ plan-count ram pool gs es h =
       gets-left-few gs es h,
     ))
 
--- every plan has at most so many lines
-pub lines-few : (text : List ℕ) (ls : List OutputLine) → planOf text ≡ lines ls → length ls ≤ mostLines
+-- every plan has at most so many lines as go by the length of its text
+pub lines-few : (text : List ℕ) (ls : List OutputLine) → planOf text ≡ lines ls → length ls ≤ mostLines (min (length text) textSize)
 lines-few text ls h =
     let m = plan-made text ls h in
     let i = m .input in

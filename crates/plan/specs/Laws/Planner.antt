@@ -17,7 +17,7 @@ use Rattle.plan_output.specs.Laws.Line.{put-start}
 use Rattle.plan.specs.declared.line.OutputLine.{OutputLine}
 use Rattle.plan.specs.declared.planner.Planned.the-variants.{Written, Refused}
 use Rattle.plan.specs.Line.{linesBytes, Room, Wrote}
-use Rattle.plan.specs.Planner.{Plan, refused, lines, planLines, planOf, plannedAs, outputAs, Answers, mostLines, outputSize}
+use Rattle.plan.specs.Planner.{Plan, refused, lines, planLines, planOf, plannedAs, outputAs, Answers, outputSizeFor}
 use Rattle.plan.specs.Laws.Few.{ram-lines, pool-lines, lines-few}
 
 -- a line for each entry of the RAM, and for each range of the pool
@@ -47,7 +47,7 @@ answers-lines {p} {ls} {before} {after} {r} e w =
     record { answer = rw (e, n); output = rw e (w .bytes ∙ put-start (linesBytes ls) before) }
 
 -- the output has room for the lines of every plan
-pub plan-room : (text : List ℕ) (ls : List OutputLine) (output : List ℕ) → outputSize ≤ length output → planOf text ≡ lines ls → Room (length ls) 0 output
+pub plan-room : (text : List ℕ) (ls : List OutputLine) (output : List ℕ) → outputSizeFor (length text) ≤ length output → planOf text ≡ lines ls → Room (length ls) 0 output
 plan-room text ls output h e = omega (arith, lines-few text ls e)
 
 -- the bytes that are written lie within the output

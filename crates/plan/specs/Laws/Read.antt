@@ -12,10 +12,11 @@ use Rattle.memory_range.specs.declared.range.MemoryRange.{MemoryRange}
 use Rattle.memory_range.specs.List.{rangesOf}
 use Rattle.memory_range.specs.Valid.{validRange, allValid, ascend}
 use Rattle.host_params.specs.declared.IsolationType.{IsolationType}
+use Rattle.host_params.specs.declared.MemoryEntry.{MemoryEntry}
 use Rattle.vtl2_ram.specs.declared.ram.Vtl2Ram.{Vtl2Ram}
 use Rattle.vtl2_ram.specs.Ram.{ramAs}
 use Rattle.vtl2_ram.specs.Choice.{Choice, refused, chosen, entriesOf}
-use Rattle.host_map.specs.Map.{mapRanges}
+use Rattle.host_map.specs.Map.{mapOf, mapRanges, mapStarts, mapEnds, mapNodes, mapProtectable}
 use Rattle.vtl2_ram.specs.Select.{choice}
 use Rattle.vtl2_ram.specs.Laws.Select.{chosen-in-order}
 use Rattle.boot_ram.specs.Verdict.{maxChosen}
@@ -23,10 +24,11 @@ use Rattle.memory.specs.declared.builder.AddressSpaceManagerBuilder.{AddressSpa
 use Rattle.memory.specs.Builder.{singlesValid}
 use Rattle.plan_record.specs.declared.record.Get.{Get}
 use Rattle.plan_record.specs.declared.record.Pool.{Pool}
+use Rattle.plan_text.specs.declared.text.TextCheck.{TextCheck}
 use Rattle.plan_text.specs.declared.text.TextCheck.the-variants.{Accepted, Refused}
 use Rattle.plan_text.specs.Order.{inOrder}
-use Rattle.plan_text.specs.Text.{textCheck}
-use Rattle.plan_text.specs.Laws.Text.{accepted}
+use Rattle.plan_text.specs.Text.{textSize, textCheck, checkFrom, recordsFrom}
+use Rattle.plan_text.specs.Laws.Text.{accepted, short-from}
 use Rattle.plan_input.specs.Record.{recordsAt, behindOne}
 use Rattle.plan_input.specs.Range.{startsIn, endsIn}
 use Rattle.plan_input.specs.Room.{mapRoom, importRoom, configRoom, poolRoom}
@@ -73,8 +75,38 @@ ranges-lent room rs {n} {count} {ss} {es} s e c h =
       ranges = rw (s, e) (stored-ranges room rs (zeros room) (zeros room) n z z (h ∙ ap (λ (k : ℕ). min k room) c));
     }
 
+-- the same of a map in four arrays
+pub record MapLent (m : List MemoryEntry) (n : ℕ) (ss es ns : List ℕ) (ls : List Bool) : Type 0 where
+  pub starts : n ≤ length ss
+  pub ends : n ≤ length es
+  pub nodes : n ≤ length ns
+  pub protectable : n ≤ length ls
+  pub map : mapOf (take n ss) (take n es) (take n ns) (take n ls) ≡ take mapRoom m
+
+pub map-lent : (m : List MemoryEntry) {n count : ℕ} {ss es ns : List ℕ} {ls : List Bool} → ss ≡ sets (zeros mapRoom) 0 (mapStarts m)
+    → es ≡ sets (zeros mapRoom) 0 (mapEnds m) → ns ≡ sets (zeros mapRoom) 0 (mapNodes m)
+    → ls ≡ sets (replicate mapRoom false) 0 (mapProtectable m) → count ≡ length m → n ≡ min count mapRoom → MapLent m n ss es ns ls
+map-lent m {n} {count} {ss} {es} {ns} {ls} s e t l c h =
+    let few : n ≤ mapRoom = omega (arith, h) in
+    let z : length (zeros mapRoom) ≡ mapRoom = length-replicate {A = ℕ} mapRoom 0 in
+    let y : length (replicate mapRoom false) ≡ mapRoom = length-replicate {A = Bool} mapRoom false in
+    let hs : length ss ≡ mapRoom = ap length s ∙ length-sets (zeros mapRoom) 0 (mapStarts m) ∙ z in
+    let he : length es ≡ mapRoom = ap length e ∙ length-sets (zeros mapRoom) 0 (mapEnds m) ∙ z in
+    let hn : length ns ≡ mapRoom = ap length t ∙ length-sets (zeros mapRoom) 0 (mapNodes m) ∙ z in
+    let hl : length ls ≡ mapRoom = ap length l ∙ length-sets (replicate mapRoom false) 0 (mapProtectable m) ∙ y in
+    record {
+      starts = omega arith;
+      ends = omega arith;
+      nodes = omega arith;
+      protectable = omega arith;
+      map =
+          rw (s, e, t, l)
+          (stored-map mapRoom m (zeros mapRoom) (zeros mapRoom) (zeros mapRoom) (replicate mapRoom false) n z z z y
+          (h ∙ ap (λ (k : ℕ). min k mapRoom) c));
+    }
+
 -- a selection comes to at most 64 entries
-choice-few : (c : Choice) → ((xs : List _) → c ≡ chosen xs → length xs ≤ maxChosen) → length (entriesOf c) ≤ maxChosen
+pub choice-few : (c : Choice) → ((xs : List _) → c ≡ chosen xs → length xs ≤ maxChosen) → length (entriesOf c) ≤ maxChosen
 choice-few (refused n) h = omega arith
 choice-few (chosen xs) h = h xs refl
 
@@ -89,6 +121,12 @@ cut-lists isolation pool b gets cs ps (chosen ram) v w = ap (afterBuild isolatio
 pub text-refused : (text : List ℕ) {n : ℕ} → textCheck text ≡ Refused n → planOf text ≡ plan.refused n
 unfolding planOf
 text-refused text e = rw e
+
+-- a text that is not too long is judged by what is left of it behind what is read
+pub text-checked : (text : List ℕ) (at k : ℕ) {s : SelectionIn} {read : SelectionRead} {r : TextCheck} → length text ≤ textSize
+    → SelectionHeld text s read → checkFrom k (recordsFrom at text) ≡ checkFrom (read .order) (recordsFrom (read .next) text)
+    → r ≡ checkFrom k (recordsFrom at text) → textCheck text ≡ r
+text-checked text at k h s e f = short-from text h ∙ sym (s .order) ∙ sym e ∙ sym f
 
 module _ (text : List ℕ) (a : textCheck text ≡ Accepted) where
   abbrev pub selection : SelectionIn
@@ -125,13 +163,13 @@ module _ (text : List ℕ) (a : textCheck text ≡ Accepted) where
   text-invalid e = plan-rows ∙ rw e
 
   -- what selection comes to, by what the code holds
-  pub selection-same : (read : SelectionRead) {imports : List MemoryRange} {ram : Vtl2Ram} → SelectionHeld text selection read
-      → imports ≡ take importRoom (selection .imports)
+  pub selection-same : (read : SelectionRead) {m : List MemoryEntry} {imports : List MemoryRange} {ram : Vtl2Ram}
+      → SelectionHeld text selection read → m ≡ take mapRoom (selection .map) → imports ≡ take importRoom (selection .imports)
       → ram
       ≡ ramAs
-      (choice (read .shape .mode) (read .shape .isolation) (read .shape .«memory_size») (read .file) (take (read .«map_count») (read .map)) imports)
+      (choice (read .shape .mode) (read .shape .isolation) (read .shape .«memory_size») (read .file) m imports)
       → ram ≡ ramAs (choiceOf selection)
-  selection-same read h i e = rw (h .shape, h .file, stored-map (selection .map) (h .map) (h .map-count), i) at e
+  selection-same read h m i e = rw (h .shape, h .file, m, i) at e
 
   selected-few : length (entriesOf (choiceOf selection)) ≤ maxChosen
   selected-few =

@@ -2,14 +2,14 @@
 -- has one place more than its row allows, so a list that is too long is refused either way.
 use Prim.Native.Nat.{ℕ, suc, zero, _<_, min}
 use mathlib.Core.Path.{_≡_, refl, sym, ap, _∙_}
-use mathlib.Core.Bool.{true, false, and-eq-true-iff, and-false, true≢false}
+use mathlib.Core.Bool.{Bool, true, false, and-eq-true-iff, and-false, true≢false}
 use mathlib.Core.List.{List, [], _∷_}
 use mathlib.Core.Option.{Option, none, some}
 use native.Mathlib.Decide.{decLe}
 use native.Mathlib.Omega.{arith}
 use borrow.Author.Tests.{lt-leb, lt-ltb}
 use lib.Dec.{leb}
-use lib.ListN.{length, take, set, replicate, length-take, length-replicate}
+use lib.ListN.{length, take, set, length-take}
 use lib.Seq.{sets, take-all, take-nil}
 use Rattle.refusal.specs.Number.{mapCount}
 use Rattle.memory_range.specs.declared.range.MemoryRange.{MemoryRange}
@@ -20,12 +20,11 @@ use Rattle.host_params.specs.declared.IsolationType.{IsolationType}
 use Rattle.host_params.specs.declared.MemoryAllocationMode.{MemoryAllocationMode}
 use Rattle.host_params.specs.declared.MemoryEntry.{MemoryEntry}
 use Rattle.host_params.specs.declared.OptionU64.{OptionU64}
-use Rattle.host_map.specs.Map.{mapRanges}
-use Rattle.host_map.specs.Entries.{noEntry}
+use Rattle.host_map.specs.Map.{mapOf, mapRanges, isProtectable, mapStarts, mapEnds, mapNodes, mapProtectable}
 use Rattle.vtl2_ram.specs.Rows.{countsGood}
 use Rattle.vtl2_ram.specs.Choice.{refused}
 use Rattle.vtl2_ram.specs.Select.{choice}
-use Rattle.vtl2_ram.specs.Laws.Map.{length-map-ranges}
+use Rattle.vtl2_ram.specs.Laws.Map.{map-again, length-map-ranges}
 use Rattle.vtl2_ram.specs.Laws.Rows.{rows-count}
 use Rattle.memory.specs.declared.builder.AddressSpaceManagerBuilder.{AddressSpaceManagerBuilder}
 use Rattle.memory.specs.Build.{Build, build, filled, unless}
@@ -36,7 +35,7 @@ use Rattle.memory.specs.Laws.Build.{pools-many}
 use Rattle.memory.specs.Laws.Overlap.{used-refused-none}
 use Rattle.memory.specs.Laws.Rows.{rows-passed}
 use Rattle.plan_input.specs.Range.{startsIn, endsIn}
-use Rattle.plan_input.specs.Room.{mapRoom, noMap, importRoom, configRoom, poolRoom}
+use Rattle.plan_input.specs.Room.{mapRoom, importRoom, configRoom, poolRoom}
 
 module _ {A : Type 0} where
   -- nothing is stored in an empty array, and what is stored behind the first place leaves that as it is
@@ -79,17 +78,20 @@ stored-ranges room rs ss es n s e c =
     )
     (ranges-again (take room rs))
 
--- the room for the map: so many places that hold no entry; and what of the map is found in it
-pub no-map : {e : MemoryEntry} → e ≡ noEntry → replicate mapRoom e ≡ noMap
-unfolding noMap
-no-map h = ap (replicate mapRoom) h
-
-pub no-map-length : length noMap ≡ mapRoom
-unfolding noMap
-no-map-length = length-replicate mapRoom noEntry
-
-pub stored-map : (m : List MemoryEntry) {held : List MemoryEntry} {n : ℕ} → held ≡ sets noMap 0 m → n ≡ length m → take n held ≡ take mapRoom m
-stored-map m {n = n} h e = rw h (stored-in (λ es. es) (λ x. x) refl (λ x xs. refl) noMap m n no-map-length (ap (λ (k : ℕ). min k mapRoom) e))
+-- and so is a map that is stored in four
+pub stored-map : (room : ℕ) (m : List MemoryEntry) (ss es ns : List ℕ) (ls : List Bool) (n : ℕ) → length ss ≡ room → length es ≡ room
+    → length ns ≡ room → length ls ≡ room → n ≡ min (length m) room
+    → mapOf (take n (sets ss 0 (mapStarts m))) (take n (sets es 0 (mapEnds m))) (take n (sets ns 0 (mapNodes m))) (take n (sets ls 0 (mapProtectable m)))
+    ≡ take room m
+stored-map room m ss es ns ls n s e t l c =
+    let k : min n room ≡ min (length m) room = omega arith in
+    rw (
+      stored-in mapStarts (λ x. x .range .start) refl (λ x xs. refl) ss m n s k,
+      stored-in mapEnds (λ x. x .range .end) refl (λ x xs. refl) es m n e k,
+      stored-in mapNodes (λ x. x .vnode) refl (λ x xs. refl) ns m n t k,
+      stored-in mapProtectable (λ x. isProtectable (x .«mem_type»)) refl (λ x xs. refl) ls m n l k,
+    )
+    (map-again (take room m))
 
 -- the first of a list of ranges are valid, and ascend, where all do
 valid-take : (n : ℕ) (rs : List MemoryRange) → allValid rs ≡ true → allValid (take n rs) ≡ true

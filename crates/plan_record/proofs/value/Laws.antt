@@ -29,7 +29,7 @@ abbrev pub on : {A B : Type 0} → Option A → (A → Option B) → Option B
 on none next = none
 on (some x) next = next x
 
-on-after : {A B : Type 0} (o : Option A) (next : A → Option B) → on o next ≡ after o next
+pub on-after : {A B : Type 0} (o : Option A) (next : A → Option B) → on o next ≡ after o next
 on-after none next = refl
 on-after (some x) next = refl
 

@@ -16,12 +16,15 @@ use Rattle.plan_fields.specs.Cut.{newline, splitOn}
 use Rattle.plan_fields.specs.Word.{after}
 use Rattle.plan_fields.specs.Laws.Cut.{first-length, split-first, split-none, split-some}
 use Rattle.plan_record.specs.declared.record.Record.{Record}
+use Rattle.plan_text.specs.declared.text.RecordStep.{RecordStep}
 use Rattle.plan_text.specs.declared.text.RecordStep.the-variants as step
 use Rattle.plan_text.specs.declared.text.TextCheck.{TextCheck}
 use Rattle.plan_text.specs.declared.text.TextCheck.the-variants.{Accepted, Refused}
-use Rattle.plan_text.specs.Order.{inOrder}
+use Rattle.plan_text.specs.Order.{placeOf, inOrder}
+use Rattle.plan_text.specs.OrderStep.{orderAfter}
 use Rattle.plan_record.specs.Record.{lineOf}
-use Rattle.plan_text.specs.Text.{lastPart, partsRecords, recordsOf, recordsFrom, orderCheck, textSize, textCheck, lineStep, lineAt, recordStep, recordStepped}
+use Rattle.plan_text.specs.Text.{lastPart, partsRecords, recordsOf, recordsFrom, orderCheck, checkFrom, textSize, textCheck, lineStep, lineAt, recordStep, recordStepped}
+use Rattle.plan_text.specs.Laws.Order.{ordered-in-order}
 
 pub too-long : (text : List ℕ) → textSize < length text → textCheck text ≡ Refused textTooLong
 unfolding textCheck
@@ -136,6 +139,31 @@ module _ (text : List ℕ) (at : ℕ) where
           records-last h e ∙ sym (ap (recordStepped text) (step-at-last h e))
     ]
   ]
+
+-- the check of the records that are left: at the start that of all records
+check-start : (o : Option (List Record)) → orderCheck o ≡ checkFrom 0 o
+check-start none = refl
+check-start (some rs) = rw (← ordered-in-order)
+
+-- a text that is not too long is judged from its start on
+pub short-from : (text : List ℕ) → length text ≤ textSize → textCheck text ≡ checkFrom 0 (recordsFrom 0 text)
+short-from text h = short-enough text h ∙ check-start (recordsOf text)
+
+-- behind a record it is the check at the order that the record leaves
+check-next : (k : ℕ) (r : Record) (rest : Option (List Record)) → checkFrom k (infront (some r) rest) ≡ checkFrom (orderAfter k (placeOf r)) rest
+check-next k r none = refl
+check-next k r (some rs) = refl
+
+-- the check from a place on by the step there
+module _ (text : List ℕ) (at k : ℕ) where
+  pub check-by : {a s : RecordStep} → a ≡ recordStep text at → a ≡ s → checkFrom k (recordsFrom at text) ≡ checkFrom k (recordStepped text s)
+  check-by e f = ap (checkFrom k) (step-records text at ∙ ap (recordStepped text) (sym e ∙ f))
+
+  -- a step that yields a record goes on to the same answer
+  pub check-on : {a : RecordStep} {r : Record} {next j : ℕ} → a ≡ recordStep text at → a ≡ step.Record r next → j ≡ orderAfter k (placeOf r)
+      → checkFrom j (recordsFrom next text) ≡ checkFrom k (recordsFrom at text)
+  check-on {r = r} {next} e f g =
+      ap (λ (j : ℕ). checkFrom j (recordsFrom next text)) g ∙ sym (check-next k r (recordsFrom next text)) ∙ sym (check-by e f)
 
 -- what a step's answer says of the records, where no line breaks its form
 module _ {rs : List Record} (text : List ℕ) where

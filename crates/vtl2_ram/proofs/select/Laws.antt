@@ -1,4 +1,4 @@
--- Laws for selection: the lists that a copied map is put into, and what rows that pass say of them.
+-- Laws for selection: the lists that a copied map is put into, or that are lent, and what rows that pass say of them.
 use Prim.Native.Nat.{ℕ, _+_, _≤_, _<_}
 use mathlib.Core.Path.{_≡_, refl, sym, ap, _∙_}
 use mathlib.Core.Bool.{Bool}
@@ -10,7 +10,8 @@ use lib.ListN.{length, take, set, getD, length-set, length-take}
 use lib.Seq.{take-suc, take-suc-set}
 use Rattle.memory_range.specs.declared.range.MemoryRange.{MemoryRange}
 use Rattle.memory_range.specs.Bytes.{Ordered}
-use Rattle.memory_range.specs.List.{rangesIn, taggedOf, tagsOf}
+use Rattle.memory_range.specs.List.{rangesIn, rangesOf, taggedOf, tagsOf}
+use Rattle.memory_range.specs.Laws.List.{length-ranges}
 use Rattle.memory_range.specs.Laws.Valid.{valid-ordered}
 use Rattle.refusal.specs.declared.answer.Counted.{Counted}
 use Rattle.refusal.specs.declared.answer.Rows.the-variants.{Passed, Refused}
@@ -20,29 +21,22 @@ use Rattle.host_params.specs.declared.IsolationType.{IsolationType}
 use Rattle.host_params.specs.declared.MemoryAllocationMode.{MemoryAllocationMode}
 use Rattle.host_params.specs.declared.MemoryAllocationMode.the-variants.{Host, Vtl2}
 use Rattle.host_params.specs.declared.MemoryEntry.{MemoryEntry}
-use Rattle.host_params.specs.declared.MemoryMapEntryType.{MemoryMapEntryType}
-use Rattle.host_params.specs.declared.MemoryMapEntryType.the-variants.{Vtl2Protectable, Memory}
 use Rattle.host_params.specs.declared.OptionU64.{OptionU64}
 use Rattle.host_map.specs.declared.entries.Entries.{Entries}
-use Rattle.host_map.specs.Map.{maxEntries, typeOf, mapOf, isProtectable, SameLengths, mapRanges, entriesIn}
+use Rattle.host_map.specs.Map.{maxEntries, mapOf, isProtectable, SameLengths, mapRanges, entriesIn}
+use Rattle.host_map.specs.declared.rows.RangeCheck.{RangeCheck}
+use Rattle.host_map.specs.Rows.{checkStart, checkedAll}
 use Rattle.host_map.specs.Laws.Rows.{valid-by, ascending-by}
 use Rattle.boot_nodes.specs.declared.node.NumaNodes.{NumaNodes}
 use Rattle.boot_nodes.specs.Node.{heldCounted, nodesCounted}
 use Rattle.vtl2_ram.specs.Boot.{RowsPassed, bootChoice}
 use Rattle.vtl2_ram.specs.Choice.{refused}
 use Rattle.vtl2_ram.specs.Host.{hostChoice}
-use Rattle.vtl2_ram.specs.Rows.{rowsKnown}
-use Rattle.vtl2_ram.specs.Select.{choiceBy, copiedMap, Copied, Listed, choiceCopied}
+use Rattle.vtl2_ram.specs.Rows.{rowsKnown, rowsRefusal}
+use Rattle.vtl2_ram.specs.Select.{choiceBy, choice, copiedMap, Copied, Listed, choiceCopied}
 use Rattle.boot_nodes.specs.Laws.Node.{held-counted}
-use Rattle.vtl2_ram.specs.Laws.Map.{entryOf, map-entries, all-tags}
-use Rattle.vtl2_ram.specs.Laws.Rows.{known-passed, count-within}
-
-type-again : (t : MemoryMapEntryType) → typeOf (isProtectable t) ≡ t
-type-again Vtl2Protectable = refl
-type-again Memory = refl
-
-entry-again : (e : MemoryEntry) → entryOf (e .range .start) (e .range .end) (e .vnode) (isProtectable (e .«mem_type»)) ≡ e
-entry-again e = rw (type-again (e .«mem_type»))
+use Rattle.vtl2_ram.specs.Laws.Map.{entryOf, entry-again, map-entries, map-ranges, all-tags}
+use Rattle.vtl2_ram.specs.Laws.Rows.{known-passed, rows-passed, count-within}
 
 -- one more value in each of four lists of one length is one more entry
 map-more : (ss es ns : List ℕ) (ls : List Bool) → SameLengths ss es ns ls → (s e n : ℕ) (l : Bool)
@@ -141,3 +135,30 @@ module _ (mode : MemoryAllocationMode) (file : MemoryRange) (copy : Entries) (im
             let tags : tagsOf (entriesIn (copiedMap copy)) ≡ take n ns =
             ap tagsOf listed-entries ∙ all-tags (take n ss) (take n es) (take n ns) (same .0) (same .1) in
             c ∙ ap heldCounted (k copied-within .1) ∙ held-counted (tagsOf (entriesIn (copiedMap copy))) ∙ ap nodesCounted tags
+
+-- from lists of one length, by what was seen of their ranges
+module _ (mode : MemoryAllocationMode) (file : MemoryRange) (ss es ns : List ℕ) (ls : List Bool) (imports : List MemoryRange)
+    (same : SameLengths ss es ns ls) {check : RangeCheck} (k : check ≡ checkedAll checkStart (rangesOf ss es)) where
+  abbrev seen : Option ℕ
+  seen = rowsKnown mode file (check .valid) (check .ascending) (length ss) imports
+
+  seen-rows : seen ≡ rowsRefusal mode file (mapRanges (mapOf ss es ns ls)) imports
+  seen-rows =
+      let n : length ss ≡ length (rangesOf ss es) = omega (arith, length-ranges ss es) in
+      rw (map-ranges ss es ns ls same, valid-by (rangesOf ss es) k, ascending-by (rangesOf ss es) k, n)
+
+  module _ (isolation : IsolationType) (size : OptionU64) where
+    pub lent-refused : {n : ℕ} → rowsAs seen ≡ Refused n → choice mode isolation size file (mapOf ss es ns ls) imports ≡ refused n
+    unfolding choice
+    lent-refused e = rw (← seen-rows, rows-refused seen e)
+
+    pub lent-chosen : rowsAs seen ≡ Passed
+        → choice mode isolation size file (mapOf ss es ns ls) imports ≡ choiceBy mode isolation size file (mapOf ss es ns ls) imports
+    unfolding choice
+    lent-chosen e = rw (← seen-rows, rows-none seen e)
+
+  pub lent-rows : rowsAs seen ≡ Passed → RowsPassed file (taggedOf ss es ns) imports
+  lent-rows e =
+      let p = rows-passed mode file (mapRanges (mapOf ss es ns ls)) imports (sym seen-rows ∙ rows-none seen e) in
+      let q : RowsPassed file (entriesIn (mapOf ss es ns ls)) imports = (p .0, p .1, p .3, p .2, p .4) in
+      rw (map-entries ss es ns ls same) at q

@@ -6,13 +6,15 @@ use mathlib.Core.List.{List, _∷_}
 use native.Mathlib.Omega.{arith}
 use borrow.Author.Needs.{needs}
 use lib.ListN.{length}
+use Rattle.refusal.specs.Laws.Answer.{rows-refused}
 use Rattle.address_space.specs.Table.{entriesOf}
 use Rattle.plan_record.specs.declared.record.Get.{Get}
 use Rattle.plan_input.specs.Input.{getsFirst}
 use Rattle.plan_input.specs.Record.{recordsAt}
+use Rattle.plan.specs.declared.line.OutputLine.the-variants.{No}
 use Rattle.plan.specs.Get.{getLines, afterGets, getStepped}
 use Rattle.plan.specs.Laws.Write.{Writing, writing-start, writing-end, writing-length, writing-room, writing-more}
-use Rattle.plan.proofs.get.Laws.{first-line, first-after}
+use Rattle.plan.proofs.get.Laws.{first-line, first-after, refused-line, refused-after}
 use Rattle.plan.proofs.get.answer_gets.Statement.{statement}
 use Rattle.plan.proofs.get.answer_gets.Tie as tie
 
@@ -38,13 +40,25 @@ found : (f : tie.After-get Inv-loop μ-loop) → let l = f .before .before .befo
     getsAt (start l .args .text .now) (l .loop .place) ≡ f .get .given .0 .0 ∷ behind f
 found f = let n = f .before .before in n .next-get .ensures ∙ ap (getStepped (start (n .before) .args .text .now)) (f .get .given .1)
 
--- what is left to write, once it is answered
-left : (p : tie.After-answer-line Inv-loop μ-loop) → let a = p .before .before in let f = a .before .before in let l = f .before .before .before in
+-- what is left to write, once it is refused before its split
+left-refused : (r : tie.After-number Inv-loop μ-loop) → let k = r .before .before in let f = k .before .before in let l = f .before .before .before in
+    getLines (getsAt (start l .args .text .now) (l .loop .place)) (entriesOf (l .loop .manager))
+    ≡ No (r .number .given .0 .0) ∷ getLines (behind f) (entriesOf (l .loop .manager))
+left-refused r =
+    let k = r .before .before in
+    let f = k .before .before in
+    let l = f .before .before .before in
+    rw (found f)
+    (refused-line (f .get .given .0 .0) (behind f) (entriesOf (l .loop .manager)) (r .number .given .0 .0)
+    (rows-refused _ (sym (k .check-get .ensures) ∙ r .number .given .1)))
+
+-- and once it is answered
+left : (p : tie.After-answer-line Inv-loop μ-loop) → let a = p .before .before in let f = a .before .before .before .before .before in let l = f .before .before .before in
     getLines (getsAt (start l .args .text .now) (l .loop .place)) (entriesOf (l .loop .manager))
     ≡ p .answer-line .result ∷ getLines (behind f) (entriesOf (a .answer-get .result .manager))
 left p =
     let a = p .before .before in
-    let f = a .before .before in
+    let f = a .before .before .before .before .before in
     let l = f .before .before .before in
     rw (found f, p .answer-line .ensures) (first-line (l .loop .manager) (f .get .given .0 .0) (behind f) (a .answer-get .ensures))
 
@@ -66,20 +80,43 @@ returns c =
 
 put-line-requires : tie.Need-put-line-requires Inv-loop μ-loop
 put-line-requires c κs =
-    let l = c .before .before .before .before .before .before .before in
+    let r = c .before .before in
+    let l = r .before .before .before .before .before .before .before in
+    writing-room (l .loop .inv .0) (start l .pre) (left-refused r)
+
+put-line-requires-2 : tie.Need-put-line-requires-2 Inv-loop μ-loop
+put-line-requires-2 c κs =
+    let l = c .before .before .before .before .before .before .before .before .before .before in
     writing-room (l .loop .inv .0) (start l .pre) (left c)
 
 loop-less : tie.Need-loop-less Inv-loop μ-loop
-loop-less c = omega (arith, ap length (found (c .before .before .before .before .before .before .before .before)))
+loop-less c = omega (arith, ap length (found (c .before .before .before .before .before .before .before .before .before)))
 
 loop-again : tie.Need-loop-again Inv-loop μ-loop
 loop-again c =
+    let w = c .before .before in
+    let r = w .before .before .before in
+    let k = r .before .before in
+    let f = k .before .before in
+    let l = f .before .before .before in (
+      writing-more (l .loop .inv .0) (start l .pre) (left-refused r) (w .put-line .ensures),
+      l .loop .inv .1
+          ∙ ap (λ (gs : List Get). afterGets gs (entriesOf (l .loop .manager))) (found f)
+          ∙ refused-after (f .get .given .0 .0) (behind f) (entriesOf (l .loop .manager)) (r .number .given .0 .0)
+          (rows-refused _ (sym (k .check-get .ensures) ∙ r .number .given .1)),
+    )
+
+loop-less-2 : tie.Need-loop-less-2 Inv-loop μ-loop
+loop-less-2 c = omega (arith, ap length (found (c .before .before .before .before .before .before .before .before .before .before .before)))
+
+loop-again-2 : tie.Need-loop-again-2 Inv-loop μ-loop
+loop-again-2 c =
     let w = c .before .before .before in
     let p = w .before in
     let a = p .before .before in
-    let f = a .before .before in
+    let f = a .before .before .before .before .before in
     let l = f .before .before .before in (
-      writing-more (l .loop .inv .0) (start l .pre) (left p) (w .put-line .ensures),
+      writing-more (l .loop .inv .0) (start l .pre) (left p) (w .put-line2 .ensures),
       l .loop .inv .1
           ∙ ap (λ (gs : List Get). afterGets gs (entriesOf (l .loop .manager))) (found f)
           ∙ first-after (l .loop .manager) (f .get .given .0 .0) (behind f) (a .answer-get .ensures),
@@ -98,7 +135,13 @@ answer-gets-spec =
     returns
     (λ c. search needs)
     (λ c κs. search needs)
-    (λ c κs. search needs)
+    (λ c. search needs)
     put-line-requires
+    (λ c. search needs)
+    (λ c κs. search needs)
+    (λ c κs. search needs)
+    put-line-requires-2
     loop-less
-    loop-again)
+    loop-again
+    loop-less-2
+    loop-again-2)

@@ -1,60 +1,72 @@
--- The map that is stored and the imported ranges that are lent are as much of both lists as there is room for: `choiceOf` is by these.
-use native.Mathlib.Omega.{arith}
+-- Rows 4 and 5 by what is read, and then the plan by what selection comes to and by as much of the lists as there is room for.
+use Prim.Native.Nat.{ℕ}
+use mathlib.Core.Path.{_≡_, ap, ap₂, sym, _∙_}
+use mathlib.Core.Bool.{Bool, true, _&&_}
+use mathlib.Core.List.{List}
 use borrow.Author.Needs.{needs}
 use denote.Ref.{now}
-use lib.ListN.{length-take}
-use Rattle.plan_input.specs.Selection.{SelectionIn}
-use Rattle.plan_input.specs.Room.{importRoom}
-use Rattle.plan.specs.Laws.Read.{Lent, ranges-lent, selection, selection-same}
+use Rattle.plan_text.specs.declared.text.TextCheck.the-variants.{Accepted}
+use Rattle.plan_text.specs.Text.{textCheck}
+use Rattle.plan_record.specs.declared.record.Shape.{Shape}
+use Rattle.plan_input.specs.Input.{getsFirst}
+use Rattle.plan.specs.Laws.Planner.{answers-refused}
+use Rattle.plan.specs.Laws.Read.{selectionValid, buildValid, text-invalid, text-descends, text-selected, selection-same, not-true, not-false}
 use Rattle.plan.proofs.planner.plan_accepted.Statement.{statement}
 use Rattle.plan.proofs.planner.plan_accepted.Tie as tie
 
-module _ (c : tie.After-at-most) where
-  abbrev read : tie.After-read-selection
-  read = c .before
+abbrev entry : tie.After-struct-known2 → tie.Start
+entry k = k .before .before .before .before .before .before .before .before .before .before .before .before .before .before
 
-  abbrev entry : tie.Start
-  entry = read .before .before .before .before .before
+module _ (s : tie.Start) where
+  abbrev textOf : List ℕ
+  textOf = now (s .args .text)
 
-  abbrev given : SelectionIn
-  given = selection (now (entry .args .text)) (entry .pre .1)
+  abbrev accepted : textCheck textOf ≡ Accepted
+  accepted = s .pre .1 .accepted
 
-  imports-room : let l = read .read-selection .last .1 in Lent importRoom (given .imports) (c .at-most .result) (l .0) (l .1 .0)
-  imports-room =
-      let e = read .read-selection .ensures in ranges-lent importRoom (given .imports) (e .1 .0) (e .1 .1) (e .0 .import-count) (c .at-most .ensures)
+  valid-same : (s .args .read .valid && s .args .build .valid) ≡ (selectionValid textOf accepted && buildValid textOf accepted)
+  valid-same = ap₂ (λ (x y : Bool). x && y) (s .pre .1 .selection .valid) (s .pre .1 .building .valid)
 
-array-share-prefix-import-starts : tie.Need-array-share-prefix-import-starts
-array-share-prefix-import-starts c = imports-room c .starts
+returns : tie.Need-returns
+returns c =
+    let s = entry (c .before) in
+    answers-refused (text-invalid (textOf s) (accepted s) (sym (valid-same s) ∙ not-true _ (c .if1 .taken)))
 
-slice-aggregate-select-ram : tie.Need-slice-aggregate-select-ram
-slice-aggregate-select-ram c = simp length-take (omega (arith, imports-room (c .before) .starts))
+-- row 4 is passed
+valid : (c : tie.Else1) → let s = entry (c .before) in (selectionValid (textOf s) (accepted s) && buildValid (textOf s) (accepted s)) ≡ true
+valid c = sym (valid-same (entry (c .before))) ∙ not-false _ (c .if1 .left)
 
-array-share-prefix-import-ends : tie.Need-array-share-prefix-import-ends
-array-share-prefix-import-ends c = imports-room (c .before) .ends
+returns-2 : tie.Need-returns-2
+returns-2 c =
+    let v = c .before .before in
+    let s = entry (v .before) in
+    answers-refused (text-descends (textOf s) (accepted s) (valid v) (sym (s .pre .1 .selection .ascending) ∙ not-true _ (c .if2 .taken)))
 
-slice-aggregate-select-ram-2 : tie.Need-slice-aggregate-select-ram-2
-slice-aggregate-select-ram-2 c = simp length-take (omega (arith, imports-room (c .before .before) .ends))
-
-plan-selected-requires : tie.Need-plan-selected-requires
-plan-selected-requires c κs =
+plan-ram-requires : tie.Need-plan-ram-requires
+plan-ram-requires c κs =
     let r = c .before in
-    let m = r .before .before .before in
-    let s = entry m in
-    let h = read m .read-selection .ensures .0 in
-    let same = selection-same (now (s .args .text)) (s .pre .1) (read m .read-selection .result) h (imports-room m .ranges) (r .select-ram .ensures) in
-    (s .pre .0, (s .pre .1, (h, same)))
+    let passed = r .before .before .before in
+    let v = passed .before .before in
+    let s = entry (v .before) in
+    let t = s .pre .1 in (
+      s .pre .0,
+      text-selected (textOf s) (accepted s) (valid v) (sym (t .selection .ascending) ∙ not-false _ (passed .if2 .left))
+          (ap (λ (h : Shape). h .isolation) (t .selection .shape))
+          (t .pool-first)
+          (t .building .builder)
+          (ap getsFirst (t .next))
+          (t .configs-room)
+          (t .pools-room)
+          (selection-same (textOf s) (accepted s) (s .args .read) (t .selection) (t .map-room) (t .imports-room) (r .select-ram .ensures)),
+    )
 
 pub plan-accepted-spec : {M : Type 1} → statement M
 plan-accepted-spec =
     tie.close
     (tie.spec
+    returns
+    returns-2
     (λ c κs. search needs)
-    (λ c κs. search needs)
-    array-share-prefix-import-starts
-    slice-aggregate-select-ram
-    array-share-prefix-import-ends
-    slice-aggregate-select-ram-2
-    (λ c κs. search needs)
-    plan-selected-requires
+    plan-ram-requires
     (λ c. search needs)
     (λ c. search needs))

@@ -18,7 +18,7 @@ use Rattle.private_pool.specs.declared.pool.PoolPlaced.{PoolPlaced}
 use Rattle.private_pool.specs.declared.pool.PoolPlaced.the-variants.{Ranges}
 use Rattle.private_pool.specs.Pool.{Placement}
 use Rattle.plan.specs.Pool.{pagesWanted, placedFor, poolFor}
-use Rattle.plan.specs.Planner.{planOf, planLines, lines, afterPool, outputSize}
+use Rattle.plan.specs.Planner.{planOf, planLines, lines, afterPool}
 use Rattle.plan.specs.Laws.Planner.{answers-refused, answers-lines, plan-room}
 use Rattle.plan.specs.Laws.Pool.{PoolHeld, pool-few, answer-refused, answer-placed}
 use Rattle.plan.proofs.planner.plan_table.Statement.{statement}

@@ -1,67 +1,95 @@
--- `write::write_map_lines` meets its contract. The loop's invariant: the lines of the entries from `entry` on are left to write. The
--- measure is how many these are.
-use mathlib.Core.Path.{_≡_, ap}
-use mathlib.Core.List.{List, _∷_}
+-- `write::write_map_lines` meets its contract. The loop's invariant: the lines of the joined ranges from `i` on are left to write.
+use Prim.Native.Nat.{_+_, _-_, _≤_}
+use mathlib.Core.Path.{_≡_, ap, sym}
+use mathlib.Core.List.{_∷_}
 use native.Mathlib.Omega.{arith}
 use borrow.Author.Needs.{needs}
-use lib.ListN.{length, drop}
-use Rattle.address_space.specs.declared.table.AddressRange.{AddressRange}
+use lib.ListN.{length, take, drop, getD, length-map, length-take}
+use Rattle.address_space.specs.List.{numberedRanges}
 use Rattle.address_space.specs.Table.{entriesOf}
 use Rattle.plan.specs.declared.line.OutputLine.the-variants.{Map}
-use Rattle.plan.specs.Write.{mapLines}
+use Rattle.plan.specs.Line.{Room}
+use Rattle.plan.specs.Write.{typedLines, mapLines}
+use Rattle.plan.specs.Laws.Few.{joined-few}
 use Rattle.plan.specs.Laws.Write.{Writing, writing-start, writing-end, writing-length, writing-room, writing-more}
-use Rattle.plan.proofs.write.Laws.{map-next, map-past}
+use Rattle.plan.proofs.write.Laws.{noTyped, map-next, map-past}
 use Rattle.plan.proofs.write.write_map_lines.Statement.{statement}
 use Rattle.plan.proofs.write.write_map_lines.Tie as tie
 
 abbrev Inv-loop : tie.InvT-loop
-Inv-loop output₀ at manager next₀ entry₀ output next entry =
-    Writing (mapLines (entriesOf manager)) (mapLines (drop entry (entriesOf manager))) at output₀ next output
+Inv-loop output₀ at list count next₀ i₀ output next i =
+    (i ≤ count)
+    × Writing (typedLines (numberedRanges (take count (list .ranges)))) (typedLines (numberedRanges (drop i (take count (list .ranges))))) at output₀ next output
 
 abbrev μ-loop : tie.MeasureT-loop
-μ-loop output₀ at manager next₀ entry₀ output next entry = length (mapLines (drop entry (entriesOf manager)))
+μ-loop output₀ at list count next₀ i₀ output next i = count - i
 
-abbrev start : tie.At-loop Inv-loop μ-loop → tie.Start Inv-loop μ-loop
-start l = l .before .before
+abbrev listed : tie.At-loop Inv-loop μ-loop → tie.After-all-vtl2-ranges Inv-loop μ-loop
+listed l = l .before
 
-abbrev entries : tie.At-loop Inv-loop μ-loop → List AddressRange
-entries l = entriesOf (start l .args .manager)
+-- the lines are those of the ranges that were handed over
+same : (a : tie.After-all-vtl2-ranges Inv-loop μ-loop)
+    → let r = a .all-vtl2-ranges .result in mapLines (entriesOf (a .before .before .args .manager)) ≡ typedLines (numberedRanges (take (r .count) (r .ranges)))
+same a = ap typedLines (sym (a .all-vtl2-ranges .ensures .0))
 
--- what is left to write, by a step that found a range
-found : (f : tie.After-found Inv-loop μ-loop) → let l = f .before .before .before in let x = f .found .given .0 in
-    mapLines (drop (l .loop .entry) (entries l)) ≡ Map (x .0 .range) (x .0 .«vtl_type») ∷ mapLines (drop (x .1 .0) (entries l))
-found f =
-    let v = f .before .before in
-    let l = v .before in
-    map-next (entries l) (l .loop .entry) (v .vtl2-ranges .ensures) (f .found .given .1)
+-- the array that was handed over has 256 elements, and no fewer than are counted
+full : (a : tie.After-all-vtl2-ranges Inv-loop μ-loop) → length (a .all-vtl2-ranges .result .ranges) ≡ 256
+full a = simp length-map at (a .all-vtl2-ranges .ok .1 .1 .0 .1 .0 .1)
+
+enough : (a : tie.After-all-vtl2-ranges Inv-loop μ-loop) → let r = a .all-vtl2-ranges .result in r .count ≤ length (r .ranges)
+enough a =
+    let m = a .before .before .args .manager in
+    let r = a .all-vtl2-ranges in
+    let n : length (m .«address_space») ≡ 256 = simp length-map at (a .before .before .good .1 .1 .0 .1 .1 .0 .1 .0 .1) in
+    let k = full a in
+    omega (arith, r .ensures .1, joined-few (entriesOf m), length-take (m .count) (m .«address_space»))
+
+room : (a : tie.After-all-vtl2-ranges Inv-loop μ-loop)
+    → let r = a .all-vtl2-ranges .result in
+    Room (length (typedLines (numberedRanges (take (r .count) (r .ranges))))) (a .before .before .args .at) (a .before .before .args .output .now)
+room a = rw (same a) at (a .before .before .pre)
+
+-- what is left to write at a turn: the line of a range, and those behind it
+found : (w : tie.In-loop Inv-loop μ-loop) → let l = w .before in let r = listed l .all-vtl2-ranges .result in
+    let x = getD (r .ranges) (l .loop .i) noTyped in
+    typedLines (numberedRanges (drop (l .loop .i) (take (r .count) (r .ranges))))
+    ≡ Map (x .range) (x .«vtl_type») ∷ typedLines (numberedRanges (drop (l .loop .i + 1) (take (r .count) (r .ranges))))
+found w =
+    let l = w .before in
+    let r = listed l .all-vtl2-ranges .result in
+    map-next (r .count) (r .ranges) (enough (listed l)) (l .loop .i) noTyped (w .loop-test .taken)
 
 loop-holds : tie.Need-loop-holds Inv-loop μ-loop
-loop-holds c = writing-start _ _ _
+loop-holds c = (omega arith, writing-start _ _ _)
 
-same-length : tie.Need-same-length Inv-loop μ-loop
-same-length c = let l = c .before .before .before in writing-length (l .loop .inv) (start l .pre)
+mul-found : tie.Need-mul-found Inv-loop μ-loop
+mul-found c = omega (arith, full (listed (c .before)), enough (listed (c .before)))
 
-returns : tie.Need-returns Inv-loop μ-loop
-returns c =
-    let v = c .before .before in
-    let l = v .before in
-    writing-end (l .loop .inv) (map-past (entries l) (l .loop .entry) (v .vtl2-ranges .ensures) (c .enum-told .given .1))
+element-copy-out-found : tie.Need-element-copy-out-found Inv-loop μ-loop
+element-copy-out-found c = omega (arith, full (listed (c .before)), enough (listed (c .before)))
 
 put-line-requires : tie.Need-put-line-requires Inv-loop μ-loop
 put-line-requires c κs =
-    let f = c .before .before .before in
-    let l = f .before .before .before in
-    writing-room (l .loop .inv) (start l .pre) (found f)
-
-loop-less : tie.Need-loop-less Inv-loop μ-loop
-loop-less c = omega (arith, ap length (found (c .before .before .before .before .before .before)))
+    let w = c .before .before .before in
+    let l = w .before in
+    writing-room (l .loop .inv .1) (room (listed l)) (found w)
 
 loop-again : tie.Need-loop-again Inv-loop μ-loop
 loop-again c =
     let p = c .before .before in
-    let f = p .before .before .before .before in
-    let l = f .before .before .before in
-    writing-more (l .loop .inv) (start l .pre) (found f) (p .put-line .ensures)
+    let w = p .before .before .before .before in
+    let l = w .before in
+    (omega arith, writing-more (l .loop .inv .1) (room (listed l)) (found w) (p .put-line .ensures))
+
+same-length : tie.Need-same-length Inv-loop μ-loop
+same-length c = writing-length (c .before .loop .inv .1) (room (listed (c .before)))
+
+returns : tie.Need-returns Inv-loop μ-loop
+returns c =
+    let l = c .before in
+    let a = listed l in
+    let r = a .all-vtl2-ranges .result in
+    rw (same a) (writing-end (l .loop .inv .1) (map-past (r .count) (r .ranges) (enough a) (l .loop .i) (c .loop-test .left)))
 
 pub write-map-lines-spec : {M : Type 1} → statement M
 write-map-lines-spec =
@@ -69,12 +97,13 @@ write-map-lines-spec =
     (tie.spec
     Inv-loop
     μ-loop
-    loop-holds
     (λ c κs. search needs)
-    (λ c. search needs)
-    same-length
-    returns
-    (λ c. search needs)
+    loop-holds
+    mul-found
+    element-copy-out-found
     put-line-requires
-    loop-less
-    loop-again)
+    (λ c. search needs)
+    (λ c. search needs)
+    loop-again
+    same-length
+    returns)

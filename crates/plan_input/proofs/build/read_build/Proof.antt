@@ -1,29 +1,16 @@
 -- `build::read_build` meets its contract: each call reads on from the records that the one before it left.
 use mathlib.Core.Path.{_≡_, ap, _∙_}
 use borrow.Author.Needs.{needs}
-use Rattle.memory_range.specs.declared.range.MemoryRange.{MemoryRange}
-use Rattle.memory.specs.declared.builder.AddressSpaceManagerBuilder.{AddressSpaceManagerBuilder}
 use Rattle.memory.specs.declared.builder.OptionRange.{OptionRange}
 use Rattle.memory.specs.Builder.{singlesValid}
 use Rattle.plan_input.specs.Record.{recordsAt}
-use Rattle.plan_input.specs.Range.{orEmpty}
-use Rattle.plan_input.specs.Build.{buildIn}
+use Rattle.plan_input.specs.Build.{builderOf, buildIn}
 use Rattle.host_map.specs.Laws.Rows.{valid-by, valid-three}
 use Rattle.plan_input.proofs.build.read_build.Statement.{statement}
 use Rattle.plan_input.proofs.build.read_build.Tie as tie
 
-abbrev builderOf : MemoryRange → MemoryRange → OptionRange → OptionRange → OptionRange → OptionRange → AddressSpaceManagerBuilder
-builderOf u s k i t l = record {
-  «bootshim_used» = u;
-  «persisted_state_region» = s;
-  «reserved_range» = k;
-  «sidecar_image» = i;
-  «page_tables» = t;
-  «log_buffer» = l;
-}
-
 -- ranges that are the same make the same builder
-same-builder : {u u' s s' : MemoryRange} {k k' i i' t t' l l' : OptionRange} → u ≡ u' → s ≡ s' → k ≡ k' → i ≡ i' → t ≡ t' → l ≡ l'
+same-builder : {u u' s s' k k' i i' t t' l l' : OptionRange} → u ≡ u' → s ≡ s' → k ≡ k' → i ≡ i' → t ≡ t' → l ≡ l'
     → builderOf u s k i t l ≡ builderOf u' s' k' i' t' l'
 same-builder e f g h m n = rw (e, f, g, h, m, n)
 
@@ -31,9 +18,8 @@ returns : tie.Need-returns
 unfolding buildIn
 returns c =
     let v = c .before .before in
-    let os = v .before in
-    let ou = os .before in
-    let p = ou .before in
+    let b = v .before in
+    let p = b .before in
     let l = p .before .before .before in
     let t = l .before in
     let i = t .before in
@@ -44,16 +30,14 @@ returns c =
     let a = u .before .before .args in
     let given = buildIn (recordsAt (a .text .now) (a .at)) in
     let used = u .read-range .ensures in
-    let state = rw (used .1) at (s .read-range2 .ensures) in
-    let configs = rw (state .1) at (g .read-ranges .ensures) in
+    let state = rw (used .1 .0) at (s .read-range2 .ensures) in
+    let configs = rw (state .1 .0) at (g .read-ranges .ensures) in
     let keep = rw (configs .1 .1 .0) at (k .read-range3 .ensures) in
-    let side = rw (keep .1) at (i .read-range4 .ensures) in
-    let tables = rw (side .1) at (t .read-range5 .ensures) in
-    let log = rw (tables .1) at (l .read-range6 .ensures) in
-    let pools = rw (log .1) at (p .read-ranges2 .ensures) in
-    let first = ou .or-empty .ensures ∙ ap orEmpty (used .0) in
-    let second = os .or-empty2 .ensures ∙ ap orEmpty (state .0) in
-    let builder = same-builder first second (keep .0) (side .0) (tables .0) (log .0) in
+    let side = rw (keep .1 .0) at (i .read-range4 .ensures) in
+    let tables = rw (side .1 .0) at (t .read-range5 .ensures) in
+    let log = rw (tables .1 .0) at (l .read-range6 .ensures) in
+    let pools = rw (log .1 .0) at (p .read-ranges2 .ensures) in
+    let builder = b .builder-of .ensures ∙ same-builder (used .0) (state .0) (keep .0) (side .0) (tables .0) (log .0) in
     let singles = v .is-valid .ensures ∙ ap singlesValid builder in (
       record {
         builder = builder;
@@ -62,14 +46,16 @@ returns c =
         valid = valid-three singles (valid-by (given .configs) (configs .1 .0)) (valid-by (given .pools) (pools .1 .0));
         next = pools .1 .1 .0;
       },
-      (configs .1 .1 .1 .0, (configs .1 .1 .1 .1, pools .1 .1 .1)),
+      (
+        pools .1 .1 .1 .0 ∙ log .1 .1 ∙ tables .1 .1 ∙ side .1 .1 ∙ keep .1 .1 ∙ configs .1 .1 .1 .0 ∙ state .1 .1 ∙ used .1 .1,
+        (configs .1 .1 .1 .1 .0, (configs .1 .1 .1 .1 .1, pools .1 .1 .1 .1)),
+      ),
     )
 
 pub read-build-spec : {M : Type 1} → statement M
 read-build-spec =
     tie.close
     (tie.spec
-    (λ c κs. search needs)
     (λ c κs. search needs)
     (λ c κs. search needs)
     (λ c κs. search needs)

@@ -7,27 +7,30 @@ use native.Mathlib.Omega.{arith}
 use borrow.Author.Needs.{needs}
 use lib.ListN.{length}
 use Rattle.plan_record.specs.declared.record.Record.{Record}
+use Rattle.plan_text.specs.Text.{checkFrom, recordsFrom}
 use Rattle.plan_input.specs.Record.{recordsAt}
 use Rattle.plan_input.specs.Word.{wordsFirst, behindWords}
 use Rattle.plan_input.specs.Range.{rangeIn, rangesFirst, startsIn, endsIn}
 use Rattle.host_map.specs.Rows.{checkStart, checkedAll}
 use Rattle.plan_input.specs.Laws.Record.{records-few}
-use Rattle.plan_input.proofs.list.Laws.{words-next, words-none, words-few, Stores, stores-next, stores-none, stores-length}
+use Rattle.plan_input.specs.Laws.Stores.{Stores, stores-next, stores-none, stores-length}
+use Rattle.plan_input.proofs.list.Laws.{words-next, words-none, words-few}
 use Rattle.plan_input.proofs.list.read_ranges.Statement.{statement}
 use Rattle.plan_input.proofs.list.read_ranges.Tie as tie
 
 abbrev Inv-loop : tie.InvT-loop
-Inv-loop text at place starts₀ ends₀ count₀ check₀ next₀ starts ends count check next =
+Inv-loop text at order place starts₀ ends₀ count₀ check₀ next₀ after₀ starts ends count check next after =
     let all = rangesFirst place (recordsAt text at) in
     let left = rangesFirst place (recordsAt text next) in
     (count + length left ≡ length all)
     × (checkedAll check left ≡ checkedAll checkStart all)
     × (behindWords place (recordsAt text next) ≡ behindWords place (recordsAt text at))
+    × (checkFrom after (recordsFrom next text) ≡ checkFrom order (recordsFrom at text))
     × Stores starts₀ (startsIn all) count starts (startsIn left)
     × Stores ends₀ (endsIn all) count ends (endsIn left)
 
 abbrev μ-loop : tie.MeasureT-loop
-μ-loop text at place starts₀ ends₀ count₀ check₀ next₀ starts ends count check next = length (recordsAt text next)
+μ-loop text at order place starts₀ ends₀ count₀ check₀ next₀ after₀ starts ends count check next after = length (recordsAt text next)
 
 abbrev entry : tie.At-loop Inv-loop μ-loop → tie.Start Inv-loop μ-loop
 entry l = l .before .before .before .before .before
@@ -49,10 +52,10 @@ turn g =
     let l = q .before in
     words-next (entry l .args .place) (records l (l .loop .next))
     (sym (q .read-word .ensures .0) ∙ g .«record» .given .1)
-    (q .read-word .ensures .1)
+    (q .read-word .ensures .1 .0)
 
 loop-holds : tie.Need-loop-holds Inv-loop μ-loop
-loop-holds c = (omega arith, rw (c .start .ensures), refl, record { all = refl }, record { all = refl })
+loop-holds c = (omega arith, rw (c .start .ensures), refl, refl, record { all = refl }, record { all = refl })
 
 returns : tie.Need-returns Inv-loop μ-loop
 returns c =
@@ -60,7 +63,7 @@ returns c =
     let l = q .before in
     let e = words-none (entry l .args .place) (records l (l .loop .next)) (sym (q .read-word .ensures .0) ∙ c .enum-told .given .1) in
     let i = rw (e .0, e .1) at (l .loop .inv) in
-    (omega (arith, i .0), (i .1, (i .2, (stores-none (i .3), stores-none (i .4)))))
+    (omega (arith, i .0), (i .1, (i .2, (i .3, (stores-none (i .4), stores-none (i .5))))))
 
 add-count : tie.Need-add-count Inv-loop μ-loop
 add-count c =
@@ -90,8 +93,9 @@ loop-again c =
       omega (arith, i .0),
       rw (c .with .ensures) (i .1),
       i .2,
-      stores-next (s .put-address .ensures) (i .3),
-      stores-next (p .put-address2 .ensures) (i .4),
+      g .before .before .read-word .ensures .1 .1 ∙ i .3,
+      stores-next (s .put-address .ensures) (i .4),
+      stores-next (p .put-address2 .ensures) (i .5),
     )
 
 pub read-ranges-spec : {M : Type 1} → statement M
@@ -104,8 +108,8 @@ read-ranges-spec =
     loop-holds
     (λ c κs. search needs)
     (λ c. search needs)
-    (λ c. stores-length (c .before .before .before .loop .inv .3))
     (λ c. stores-length (c .before .before .before .loop .inv .4))
+    (λ c. stores-length (c .before .before .before .loop .inv .5))
     returns
     (λ c. search needs)
     (λ c κs. search needs)

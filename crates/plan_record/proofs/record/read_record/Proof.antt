@@ -1,9 +1,7 @@
--- `record::read_record` meets its contract: the words are tried in the order of `recordOf`, and another count of
--- fields than the word has makes none.
+-- `record::read_record` meets its contract: the words are tried in the order of `recordOf`.
 use borrow.Author.Needs.{needs}
 use Rattle.plan_record.specs.Record.{rangeIn}
 use Rattle.plan_record.proofs.value.Laws.{words, answered}
-use Rattle.plan_record.proofs.record.Laws.{other-count, nothing}
 use Rattle.plan_record.proofs.record.read_record.Statement.{statement}
 use Rattle.plan_record.proofs.record.read_record.Tie as tie
 
@@ -12,13 +10,8 @@ read-record-spec =
     tie.close
     (tie.spec
     (λ c. search needs) (λ c κs. search needs) (λ c κs. search needs) (λ c. search words)
-    (λ c. search (words, other-count))
     (λ c. search needs) (λ c κs. search needs) (λ c κs. search needs) (λ c. search words)
-    (λ c. search (words, other-count))
     (λ c. search needs) (λ c κs. search needs) (λ c κs. search needs) (λ c. search words)
-    (λ c. search (words, other-count))
     (λ c. search needs) (λ c κs. search needs) (λ c κs. search needs) (λ c. search words)
-    (λ c. search (words, other-count))
-    (λ c. search (words, other-count, nothing) depth 7 fits 3000)
     (λ c κs. search needs) (λ c. search needs) (λ c κs. search needs) (λ c. search needs) (λ c. search (words, answered rangeIn))
     (λ c. search (words, answered rangeIn)))

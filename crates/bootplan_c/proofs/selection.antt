@@ -1,0 +1,3 @@
+-- The proofs of `selection`.
+pub mod Laws
+pub mod Told

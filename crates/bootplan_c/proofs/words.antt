@@ -1,0 +1,2 @@
+-- The proofs of `words`.
+pub mod Laws

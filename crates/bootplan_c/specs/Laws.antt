@@ -1,0 +1,4 @@
+pub mod Build
+pub mod Pool
+pub mod Ranges
+pub mod Request

@@ -1,2 +1,0 @@
--- The proofs of `text`.
-pub mod Laws

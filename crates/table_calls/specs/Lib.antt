@@ -1,0 +1,5 @@
+pub mod Build
+pub mod Laws
+pub mod Pool
+pub mod Ranges
+pub mod Request

@@ -1,0 +1,5 @@
+pub mod Back
+pub mod List
+pub mod Rows
+pub mod Stores
+pub mod Table
