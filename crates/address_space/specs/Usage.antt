@@ -1,6 +1,7 @@
--- What a range of the RAM is used for (docs/SPEC.md, section 21).
+-- What a range of the RAM is used for (docs/SPEC.md, section 21), and its number where it goes with a range as its tag (section 24).
 use Prim.Native.Nat.{ℕ}
-use mathlib.Core.Bool.{Bool, true, false}
+use mathlib.Core.Bool.{Bool, true, false, cond}
+use lib.Dec.{eqb}
 use Rattle.host_params.specs.declared.AllocationType.{AllocationType}
 use Rattle.host_params.specs.declared.AllocationType.the-variants as allocation
 use Rattle.host_params.specs.declared.MemoryVtlType.{MemoryVtlType}
@@ -37,14 +38,35 @@ vtlType (Reserved t) = reservedVtlType t
 abbrev pub typeNumber : MemoryVtlType → ℕ
 typeNumber vtl.Ram = 0
 typeNumber vtl.Config = 1
-typeNumber vtl.SidecarImage = 2
-typeNumber vtl.SidecarNode = 3
-typeNumber vtl.Reserved = 4
+typeNumber vtl.Reserved = 2
+typeNumber vtl.SidecarImage = 3
+typeNumber vtl.SidecarNode = 4
 typeNumber vtl.GpaPool = 5
 typeNumber vtl.TdxPageTables = 6
 typeNumber vtl.BootshimLogBuffer = 7
 typeNumber vtl.PersistedStateHeader = 8
 typeNumber vtl.PersistedStatePayload = 9
+
+-- the number of what is used and not reserved
+abbrev pub usedNumber : ℕ
+usedNumber = 0
+
+-- the number of a reserved type is that of the type that is reported of it: 1 to 9
+abbrev pub reservedNumber : ReservedMemoryType → ℕ
+reservedNumber t = typeNumber (reservedVtlType t)
+
+-- the usage of a number: that of a reserved type, and of any other number used
+unfoldable pub usageOf : ℕ → AddressUsage
+usageOf n =
+    cond (eqb n 1) (Reserved Vtl2Config)
+    (cond (eqb n 2) (Reserved Vtl2Reserved)
+    (cond (eqb n 3) (Reserved SidecarImage)
+    (cond (eqb n 4) (Reserved SidecarNode)
+    (cond (eqb n 5) (Reserved Vtl2GpaPool)
+    (cond (eqb n 6) (Reserved TdxPageTables)
+    (cond (eqb n 7) (Reserved BootshimLogBuffer)
+    (cond (eqb n 8) (Reserved PersistedStateHeader)
+    (cond (eqb n 9) (Reserved PersistedStatePayload) Used))))))))
 
 -- what a range is used for once a request of this kind was given it
 abbrev pub usageFor : AllocationType → AddressUsage

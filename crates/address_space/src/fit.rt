@@ -34,12 +34,7 @@ pub(crate) fn fits_in(
     ensures { λ r. ⌜ r ≡ fitsIn «required_vnode» len alignment entry ⌝ }
 {
     let usage = entry.usage;
-    if usage.is_free() {
-        if on_asked_node(required_vnode, entry.vnode) {
-            if len <= entry.range.len() {
-                return len <= aligned_to(alignment, entry.range).len();
-            }
-        }
-    }
-    false
+    usage.is_free()
+        && (on_asked_node(required_vnode, entry.vnode)
+            && (len <= entry.range.len() && len <= aligned_to(alignment, entry.range).len()))
 }

@@ -26,3 +26,7 @@ pub use table::AddressSpaceManager;
 pub use table::MAX_ADDRESS_RANGES;
 pub use usage::AddressUsage;
 pub use usage::ReservedMemoryType;
+pub use usage::USED;
+pub use usage::reserved_number;
+pub use usage::type_number;
+pub use usage::usage_of;

@@ -48,11 +48,8 @@ pub enum FreeRangeStep {
 fn continues_at(end: u64, number: u32, entry: AddressRange) -> bool
     ensures { λ r. ⌜ r ≡ continuesAt end number entry ⌝ }
 {
-    if end == entry.range.start {
-        let usage = entry.usage;
-        return number == type_number(usage.vtl_type());
-    }
-    false
+    let usage = entry.usage;
+    end == entry.range.start && number == type_number(usage.vtl_type())
 }
 
 // The range of an entry, with its type.
@@ -70,11 +67,8 @@ fn vtl2_range(entry: AddressRange) -> Vtl2Range
 fn is_free_on(vnode: u32, entry: AddressRange) -> bool
     ensures { λ r. ⌜ r ≡ isFreeOn vnode entry ⌝ }
 {
-    if entry.vnode == vnode {
-        let usage = entry.usage;
-        return usage.is_free();
-    }
-    false
+    let usage = entry.usage;
+    entry.vnode == vnode && usage.is_free()
 }
 
 impl AddressSpaceManager {

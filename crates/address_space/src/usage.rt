@@ -1,6 +1,6 @@
 // What a range of the RAM is used for.
 ghost use mathlib.Core.Path.{_≡_};
-ghost use Rattle.address_space.specs.Usage.{isFree, reservedVtlType, vtlType, typeNumber, usageFor, isPool};
+ghost use Rattle.address_space.specs.Usage.{isFree, reservedVtlType, vtlType, typeNumber, reservedNumber, usageOf, usageFor, isPool};
 use host_params::AllocationType;
 use host_params::MemoryVtlType;
 
@@ -72,21 +72,49 @@ impl AddressUsage {
     }
 }
 
+// The number of what is used and not reserved.
+pub const USED: u32 = 0;
+
 // A number for each type, so that two can be compared.
-pub(crate) fn type_number(vtl_type: MemoryVtlType) -> u32
+pub fn type_number(vtl_type: MemoryVtlType) -> u32
     ensures { λ r. ⌜ r ≡ typeNumber «vtl_type» ⌝ }
 {
     match vtl_type {
         MemoryVtlType::Ram => 0,
         MemoryVtlType::Config => 1,
-        MemoryVtlType::SidecarImage => 2,
-        MemoryVtlType::SidecarNode => 3,
-        MemoryVtlType::Reserved => 4,
+        MemoryVtlType::Reserved => 2,
+        MemoryVtlType::SidecarImage => 3,
+        MemoryVtlType::SidecarNode => 4,
         MemoryVtlType::GpaPool => 5,
         MemoryVtlType::TdxPageTables => 6,
         MemoryVtlType::BootshimLogBuffer => 7,
         MemoryVtlType::PersistedStateHeader => 8,
         MemoryVtlType::PersistedStatePayload => 9,
+    }
+}
+
+// The number of a reserved type, so that it goes with a range in lists of numbers.
+pub fn reserved_number(reserved: ReservedMemoryType) -> u32
+    ensures { λ r. ⌜ r ≡ reservedNumber reserved ⌝ }
+{
+    type_number(reserved.vtl_type())
+}
+
+// Of a number that no reserved type has, used.
+pub fn usage_of(number: u32) -> AddressUsage
+    ensures { λ r. ⌜ r ≡ usageOf number ⌝ }
+{
+    match number {
+        1 => AddressUsage::Reserved(ReservedMemoryType::Vtl2Config),
+        2 => AddressUsage::Reserved(ReservedMemoryType::Vtl2Reserved),
+        3 => AddressUsage::Reserved(ReservedMemoryType::SidecarImage),
+        4 => AddressUsage::Reserved(ReservedMemoryType::SidecarNode),
+        5 => AddressUsage::Reserved(ReservedMemoryType::Vtl2GpaPool),
+        6 => AddressUsage::Reserved(ReservedMemoryType::TdxPageTables),
+        7 => AddressUsage::Reserved(ReservedMemoryType::BootshimLogBuffer),
+        8 => AddressUsage::Reserved(ReservedMemoryType::PersistedStateHeader),
+        9 => AddressUsage::Reserved(ReservedMemoryType::PersistedStatePayload),
+        _ => AddressUsage::Used,
     }
 }
 

@@ -56,12 +56,7 @@ fn is_tdx(isolation: IsolationType) -> bool
 fn is_excused(isolation: IsolationType, range: MemoryRange) -> bool
     ensures { λ r. ⌜ r ≡ isExcused isolation range ⌝ }
 {
-    if is_tdx(isolation) {
-        if range.start == 0xfffff000 {
-            return range.end == 0x100000000;
-        }
-    }
-    false
+    is_tdx(isolation) && (range.start == 0xfffff000 && range.end == 0x100000000)
 }
 
 // Whether a piece of an imported range that no free piece holds is passed over.

@@ -8,10 +8,10 @@ use Rattle.memory_range.specs.declared.range.MemoryRange.{MemoryRange}
 use Rattle.memory_range.specs.Range.{range}
 use Rattle.memory.specs.Build.{Build, build, hasPool}
 use Rattle.memory.specs.Build as outcome
+use Rattle.table_words.specs.Code.{Call, refused, done, lentAfter, badNumber, badTable}
 use Rattle.table_words.specs.List.{rangesIn, ramsIn}
 use Rattle.table_words.specs.Table.{Table, table, tableOf, written}
 use Rattle.table_calls.specs.Build.{builderOf, givenGood}
-use Rattle.bootplan_c.specs.Code.{Call, refused, done, lentAfter, badNumber, badTable}
 
 -- what a build is given: the used range and the persisted state, and words for the RAM list, the optional ranges, the config ranges
 -- and the pool ranges

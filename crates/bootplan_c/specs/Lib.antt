@@ -1,10 +1,8 @@
 pub mod Build
-pub mod Code
 pub mod Laws
+pub mod Number
 pub mod Planning
 pub mod Pool
 pub mod Ranges
 pub mod Request
-pub mod Selection
 pub mod Sizing
-pub mod Words

@@ -2,7 +2,7 @@
 use Prim.Native.Nat.{ℕ}
 use Rattle.plan.specs.declared.planner.PlannedTo.{PlannedTo}
 use Rattle.plan.specs.declared.planner.PlannedTo.the-variants.{Written, Refused, NoRoom}
-use Rattle.bootplan_c.specs.Code.{doneCode, noRoom}
+use Rattle.table_words.specs.Code.{doneCode, noRoom}
 
 -- the number of an answer
 abbrev pub planCode : PlannedTo → ℕ

@@ -10,9 +10,9 @@ use Rattle.address_space.specs.declared.request.AllocatedRange.{AllocatedRange}
 use Rattle.address_space.specs.declared.table.AddressRange.{AddressRange}
 use Rattle.private_pool.specs.Pool.{Placement, poolPlaced}
 use Rattle.private_pool.specs.Pool as placement
+use Rattle.table_words.specs.Code.{Call, refused, done, lentAfter, noRoom, badTable}
 use Rattle.table_words.specs.Table.{Table, tableOf, written}
 use Rattle.table_calls.specs.Pool.{piecesRoom, piecesWords}
-use Rattle.bootplan_c.specs.Code.{Call, refused, done, lentAfter, noRoom, badTable}
 
 -- the pieces placed, in the order of their nodes, and the entries afterwards
 pub record Placed : Type 0 where

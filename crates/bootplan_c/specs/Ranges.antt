@@ -8,9 +8,9 @@ use lib.ListN.{length}
 use lib.Seq.{sets}
 use Rattle.memory_range.specs.declared.range.TaggedRange.{TaggedRange}
 use Rattle.address_space.specs.List.{vtl2Ranges}
+use Rattle.table_words.specs.Code.{Call, refused, done, lentAfter, noRoom, badTable}
 use Rattle.table_words.specs.Table.{Table, tableOf}
 use Rattle.table_calls.specs.Ranges.{rangesRoom, rangesWords}
-use Rattle.bootplan_c.specs.Code.{Call, refused, done, lentAfter, noRoom, badTable}
 
 abbrev pub rangesOn : Option Table → Call (List TaggedRange)
 rangesOn none = refused badTable

@@ -6,9 +6,9 @@ use mathlib.Core.Option.{Option, none, some}
 use lib.Dec.{eqb, ltb}
 use lib.ListN.{length}
 use lib.Seq.{sets}
+use Rattle.table_words.specs.Code.{Call, refused, done, lentAfter, noRoom, badNumber, badTable}
 use Rattle.table_words.specs.Table.{Table, tableOf, written}
 use Rattle.table_calls.specs.Request.{answersOn, afterAll, requestRows}
-use Rattle.bootplan_c.specs.Code.{Call, refused, done, lentAfter, noRoom, badNumber, badTable}
 
 pub record Answered : Type 0 where
   pub answers : List ℕ

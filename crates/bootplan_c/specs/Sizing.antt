@@ -3,25 +3,20 @@ use Prim.Native.Nat.{ℕ}
 use mathlib.Core.Bool.{Bool, true, false, cond}
 use mathlib.Core.Option.{Option, none, some}
 use lib.Dec.{eqb}
-use Rattle.host_params.specs.declared.OptionU64.{OptionU64}
-use Rattle.host_params.specs.declared.OptionU64.the-variants as host
 use Rattle.host_params.specs.declared.Vtl2GpaPoolConfig.{Vtl2GpaPoolConfig}
 use Rattle.host_params.specs.declared.Vtl2GpaPoolConfig.the-variants.{Heuristics, Off, Pages}
 use Rattle.host_params.specs.declared.Vtl2GpaPoolLookupTable.the-variants.{Release, Debug}
 use Rattle.dma_hint.specs.Pool.{poolSize}
+use Rattle.bootplan_c.specs.Number.{givenNumber}
 
 -- 1 is that many pages, 2 and 3 are the tables, every other number is off
 abbrev pub configOf : ℕ → ℕ → Vtl2GpaPoolConfig
 configOf kind pages =
     cond (eqb kind 1) (Pages pages) (cond (eqb kind 2) (Heuristics Release) (cond (eqb kind 3) (Heuristics Debug) Off))
 
-abbrev pub hostOf : Bool → ℕ → OptionU64
-hostOf true pages = host.Some pages
-hostOf false pages = host.None
-
 -- the size that is picked for these numbers
 abbrev pub pickedSize : ℕ → ℕ → Bool → ℕ → ℕ → ℕ → Option ℕ
-pickedSize kind pages given hostPages processors bytes = poolSize (configOf kind pages) (hostOf given hostPages) processors bytes
+pickedSize kind pages given hostPages processors bytes = poolSize (configOf kind pages) (givenNumber given hostPages) processors bytes
 
 abbrev pub isSome : Option ℕ → Bool
 isSome none = false

@@ -1,11 +1,12 @@
 // A table of words, built from lists of words.
 ghost use mathlib.Core.Path.{_≡_};
-ghost use Rattle.bootplan_c.specs.Code.{codeOf};
+ghost use Rattle.table_words.specs.Code.{codeOf};
 ghost use Rattle.bootplan_c.specs.Build.{given, buildCall, buildTable};
-use crate::code::BOOTPLAN_BAD_TABLE;
 use memory::Initialized;
 use memory_range::MemoryRange;
 use table_calls::build_words;
+use table_words::BOOTPLAN_BAD_TABLE;
+use table_words::BOOTPLAN_DONE;
 use table_words::read_table;
 use table_words::write_table;
 
@@ -49,7 +50,7 @@ pub extern "C" fn bootplan_build(
         Initialized::Table => {
             let after = init.manager;
             write_table(table, after);
-            0
+            BOOTPLAN_DONE
         }
     }
 }

@@ -1,20 +1,15 @@
 // The planner as a static library for C and Rust. Every number is taken; a pointer must be to a number
 // that may be written, or to as many as the length beside it says.
 mod build;
-mod code;
+mod number;
 mod planning;
 mod pool;
 mod ranges;
 mod request;
 mod selection;
 mod sizing;
-mod words;
 
 pub use build::bootplan_build;
-pub use code::BOOTPLAN_BAD_NUMBER;
-pub use code::BOOTPLAN_BAD_TABLE;
-pub use code::BOOTPLAN_DONE;
-pub use code::BOOTPLAN_NO_ROOM;
 pub use planning::bootplan_output_size;
 pub use planning::bootplan_plan;
 pub use pool::bootplan_place_pool;

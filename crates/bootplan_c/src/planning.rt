@@ -2,9 +2,9 @@
 ghost use mathlib.Core.Path.{_≡_};
 ghost use Rattle.plan.specs.Planner.{outputSizeFor, plannedTo, outputTo};
 ghost use Rattle.bootplan_c.specs.Planning.{planCode, lengthOr};
-use crate::code::BOOTPLAN_DONE;
-use crate::code::BOOTPLAN_NO_ROOM;
 use plan::PlannedTo;
+use table_words::BOOTPLAN_DONE;
+use table_words::BOOTPLAN_NO_ROOM;
 
 // So many bytes suffice for the plan of every text of that many bytes.
 #[no_mangle]

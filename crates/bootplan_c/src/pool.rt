@@ -1,14 +1,15 @@
 // The private pool, placed in a table of words.
 ghost use mathlib.Core.Path.{_≡_};
 ghost use lib.ListN.{length};
-ghost use Rattle.bootplan_c.specs.Code.{codeOf};
+ghost use Rattle.table_words.specs.Code.{codeOf};
 ghost use Rattle.bootplan_c.specs.Pool.{poolCall, poolTable, poolPieces, poolCount};
-use crate::code::BOOTPLAN_BAD_TABLE;
-use crate::code::BOOTPLAN_NO_ROOM;
 use private_pool::PoolPlaced;
 use private_pool::allocate_private_pool;
 use table_calls::PIECES_ROOM;
 use table_calls::write_pieces;
+use table_words::BOOTPLAN_BAD_TABLE;
+use table_words::BOOTPLAN_DONE;
+use table_words::BOOTPLAN_NO_ROOM;
 use table_words::read_table;
 use table_words::write_table;
 
@@ -45,7 +46,7 @@ pub extern "C" fn bootplan_place_pool(
             write_table(table, after);
             write_pieces(pieces, ranges, placed);
             *count = placed;
-            0
+            BOOTPLAN_DONE
         }
     }
 }

@@ -1,12 +1,13 @@
 // The ranges of a table of words with their types.
 ghost use mathlib.Core.Path.{_≡_};
 ghost use lib.ListN.{length};
-ghost use Rattle.bootplan_c.specs.Code.{codeOf};
+ghost use Rattle.table_words.specs.Code.{codeOf};
 ghost use Rattle.bootplan_c.specs.Ranges.{rangesCall, rangesAfter, rangesCount};
-use crate::code::BOOTPLAN_BAD_TABLE;
-use crate::code::BOOTPLAN_NO_ROOM;
 use table_calls::RANGES_ROOM;
 use table_calls::write_vtl2_ranges;
+use table_words::BOOTPLAN_BAD_TABLE;
+use table_words::BOOTPLAN_DONE;
+use table_words::BOOTPLAN_NO_ROOM;
 use table_words::read_table;
 
 // Lists the ranges: start, end and type, touching ranges of one type joined. `count` becomes how many
@@ -26,5 +27,5 @@ pub extern "C" fn bootplan_vtl2_ranges(table: &[u64], ranges: &mut [u64], count:
     }
     let manager = read.manager;
     *count = write_vtl2_ranges(ranges, manager);
-    0
+    BOOTPLAN_DONE
 }

@@ -1,13 +1,14 @@
 // Requests, made of a table of words.
 ghost use mathlib.Core.Path.{_≡_};
 ghost use lib.ListN.{length};
-ghost use Rattle.bootplan_c.specs.Code.{codeOf};
+ghost use Rattle.table_words.specs.Code.{codeOf};
 ghost use Rattle.bootplan_c.specs.Request.{requestCall, requestTable, requestAnswers};
-use crate::code::BOOTPLAN_BAD_NUMBER;
-use crate::code::BOOTPLAN_BAD_TABLE;
-use crate::code::BOOTPLAN_NO_ROOM;
 use table_calls::REQUEST_WORDS;
 use table_calls::answer_requests;
+use table_words::BOOTPLAN_BAD_NUMBER;
+use table_words::BOOTPLAN_BAD_TABLE;
+use table_words::BOOTPLAN_DONE;
+use table_words::BOOTPLAN_NO_ROOM;
 use table_words::read_table;
 use table_words::write_table;
 
@@ -32,5 +33,5 @@ pub extern "C" fn bootplan_request(table: &mut [u64], requests: &[u64], answers:
     let manager = read.manager;
     let after = answer_requests(manager, requests, answers);
     write_table(table, after);
-    0
+    BOOTPLAN_DONE
 }

@@ -2,9 +2,9 @@
 ghost use mathlib.Core.Path.{_≡_};
 ghost use Rattle.host_params.specs.declared.Vtl2GpaPoolLookupTable.the-variants.{Release, Debug};
 ghost use Rattle.dma_hint.specs.Hint.{dmaHint};
-ghost use Rattle.bootplan_c.specs.Sizing.{configOf, hostOf, pickedSize, isSome, orKept};
+ghost use Rattle.bootplan_c.specs.Sizing.{configOf, pickedSize, isSome, orKept};
+use crate::number::given_number;
 use dma_hint::PoolSize;
-use host_params::OptionU64;
 use host_params::Vtl2GpaPoolConfig;
 use host_params::Vtl2GpaPoolLookupTable;
 
@@ -36,15 +36,6 @@ fn config_of(kind: u8, pages: u64) -> Vtl2GpaPoolConfig
     }
 }
 
-fn host_of(given: bool, pages: u64) -> OptionU64
-    ensures { λ r. ⌜ r ≡ hostOf given pages ⌝ }
-{
-    if given {
-        return OptionU64::Some(pages);
-    }
-    OptionU64::None
-}
-
 // Whether there is a pool. If so, `size` becomes its pages; if not, it is kept.
 #[no_mangle]
 pub extern "C" fn bootplan_pool_size(
@@ -61,7 +52,7 @@ pub extern "C" fn bootplan_pool_size(
 {
     let picked = dma_hint::pick_private_pool_size(
         config_of(kind, pages),
-        host_of(host_given, host_pages),
+        given_number(host_given, host_pages),
         vp_count,
         mem_size,
     );

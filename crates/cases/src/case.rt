@@ -1,4 +1,6 @@
 // A case: lists of numbers; and numbers as an answer.
+use host_params::OptionU64;
+
 pub(crate) const MOST: usize = 96;
 
 pub(crate) const MOST_LISTS: usize = 8;
@@ -82,6 +84,13 @@ pub(crate) fn low_32_bits(value: u64) -> u32 {
 
 pub(crate) fn low_8_bits(value: u64) -> u8 {
     (value % 256) as u8
+}
+
+pub(crate) fn optional(is_given: bool, value: u64) -> OptionU64 {
+    if is_given {
+        return OptionU64::Some(value);
+    }
+    OptionU64::None
 }
 
 // The part from a to b, or nothing where there is no such part.

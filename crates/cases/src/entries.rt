@@ -88,12 +88,7 @@ impl Entry {
 
     // Whether it has those ends and that usage.
     pub(crate) fn is(self, start: u64, end: u64, usage: u64) -> bool {
-        if self.start == start {
-            if self.end() == end {
-                return self.usage == usage;
-            }
-        }
-        false
+        self.start == start && (self.end() == end && self.usage == usage)
     }
 }
 

@@ -112,15 +112,6 @@ fn free(table: AddressSpaceManager, vnode: u32, list: &[u64]) -> Listed {
     so_far
 }
 
-fn are_same(a: bool, b: bool, c: bool) -> bool {
-    if a {
-        if b {
-            return c;
-        }
-    }
-    false
-}
-
 // How long the three lists are, the flag, and whether they are the stored ones.
 pub(crate) fn answer(case: Case, values: &[u64]) -> Numbers {
     let given = case.list(values, 0);
@@ -128,10 +119,11 @@ pub(crate) fn answer(case: Case, values: &[u64]) -> Numbers {
     let joined = joined(table, case.list(values, 2));
     let reserved = reserved(table, case.list(values, 3));
     let free = free(table, low_32_bits(at(given, 2)), case.list(values, 4));
+    let same = joined.same && (reserved.same && free.same);
     Numbers::none()
         .with(joined.count)
         .with(reserved.count)
         .with(free.count)
         .with(number(table.has_vtl2_pool()))
-        .with(number(are_same(joined.same, reserved.same, free.same)))
+        .with(number(same))
 }

@@ -27,10 +27,7 @@ fn starts_with<'a>(buffer: &'a [u8], len: usize, stored: &'a [u8]) -> bool {
 
 // Whether the output is the stored one, and nothing is written behind it.
 fn is_written<'a>(output: &'a [u8; OUTPUT_SIZE], len: usize, stored: &'a [u8]) -> bool {
-    if starts_with(output, len, stored) {
-        return is_as_found(output, len);
-    }
-    false
+    starts_with(output, len, stored) && is_as_found(output, len)
 }
 
 // The same for the array of a line, whose type tells its length.
@@ -50,12 +47,7 @@ fn is_plan(text: &[u8], stored: &[u8]) -> bool {
     let mut output = [b'.'; OUTPUT_SIZE];
     match plan::plan(text, &mut output) {
         Planned::Written(len) => is_written(&output, len, stored),
-        Planned::Refused(number) => {
-            if is_refusal(number, stored) {
-                return is_written(&output, 0, b"");
-            }
-            false
-        }
+        Planned::Refused(number) => { is_refusal(number, stored) && is_written(&output, 0, b"") }
     }
 }
 

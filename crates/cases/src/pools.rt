@@ -20,10 +20,7 @@ use private_pool::PrivatePool;
 
 // Whether it is what the entry writes, of usage 0.
 fn is_range(found: AllocatedRange, entry: Entry) -> bool {
-    if found.vnode == entry.vnode() {
-        return entry.is(found.range.start, found.range.end, 0);
-    }
-    false
+    found.vnode == entry.vnode() && entry.is(found.range.start, found.range.end, 0)
 }
 
 // Whether the ranges are those of the list, and behind them all is 0.

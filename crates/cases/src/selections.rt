@@ -5,6 +5,7 @@ use super::case::Case;
 use super::case::Numbers;
 use super::case::at;
 use super::case::low_32_bits;
+use super::case::optional;
 use super::case::part;
 use super::case::same_nodes;
 use super::case::same_numbers;
@@ -18,7 +19,6 @@ use host_params::IsolationType;
 use host_params::MemoryAllocationMode;
 use host_params::MemoryEntry;
 use host_params::MemoryMapEntryType;
-use host_params::OptionU64;
 use memory_range::MemoryRange;
 use vtl2_ram::Selection;
 use vtl2_ram::Vtl2Ram;
@@ -85,13 +85,6 @@ fn isolation(number: u64) -> IsolationType {
     }
 }
 
-fn ram_size(is_given: bool, size: u64) -> OptionU64 {
-    if is_given {
-        return OptionU64::Some(size);
-    }
-    OptionU64::None
-}
-
 fn mem_type(is_protectable: bool) -> MemoryMapEntryType {
     if is_protectable {
         return MemoryMapEntryType::Vtl2Protectable;
@@ -122,7 +115,7 @@ fn select<'a>(list: &'a [u64], map: &'a [u64], imports: &'a [u64]) -> Vtl2Ram {
     select_from_array(
         mode(at(list, 0)),
         isolation(at(list, 1)),
-        ram_size(at(list, 2) == 1, at(list, 3)),
+        optional(at(list, 2) == 1, at(list, 3)),
         MemoryRange {
             start: at(list, 4),
             end: at(list, 5),

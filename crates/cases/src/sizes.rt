@@ -2,7 +2,9 @@
 // before it; equal answers that follow one another are written once, with their number.
 use super::case::Case;
 use super::case::Numbers;
-use super::case::low_8_bits;
+use super::case::optional;
+use dma_hint::PoolSize;
+use host_params::Vtl2GpaPoolConfig;
 use host_params::Vtl2GpaPoolLookupTable;
 
 // With an answer and how often it came, if it came.
@@ -35,22 +37,28 @@ fn hints(table: Vtl2GpaPoolLookupTable, case: Case) -> Numbers {
     with_answer(numbers, last, times)
 }
 
-// By the function for C: 0, or 1 and the pages.
+// 1 is `pages`, 2 is `release`, 3 is `debug`.
+fn config_of(kind: u64, pages: u64) -> Vtl2GpaPoolConfig {
+    match kind {
+        1 => Vtl2GpaPoolConfig::Pages(pages),
+        2 => Vtl2GpaPoolConfig::Heuristics(Vtl2GpaPoolLookupTable::Release),
+        3 => Vtl2GpaPoolConfig::Heuristics(Vtl2GpaPoolLookupTable::Debug),
+        _ => Vtl2GpaPoolConfig::Off,
+    }
+}
+
+// 0, or 1 and the pages.
 fn pool(case: Case) -> Numbers {
-    let mut size = 0;
-    let is_pool = bootplan_c::bootplan_pool_size(
-        low_8_bits(case.number(0, 0)),
-        case.number(0, 1),
-        case.number(0, 2) == 1,
-        case.number(0, 3),
+    let picked = dma_hint::pick_private_pool_size(
+        config_of(case.number(0, 0), case.number(0, 1)),
+        optional(case.number(0, 2) == 1, case.number(0, 3)),
         case.number(0, 4),
         case.number(0, 5),
-        &mut size,
     );
-    if is_pool {
-        return Numbers::none().with(1).with(size);
+    match picked {
+        PoolSize::None => Numbers::none().with(0),
+        PoolSize::Pages(pages) => Numbers::none().with(1).with(pages),
     }
-    Numbers::none().with(0)
 }
 
 pub(crate) fn answer(op: &[u8], case: Case) -> Numbers {

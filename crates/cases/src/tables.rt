@@ -73,10 +73,8 @@ fn range_of(entry: Entry) -> AddressRange {
 
 pub(crate) fn is_same(found: AddressRange, entry: Entry) -> bool {
     let usage = found.usage;
-    if found.vnode == entry.vnode() {
-        return entry.is(found.range.start, found.range.end, usage_number(usage));
-    }
-    false
+    found.vnode == entry.vnode()
+        && entry.is(found.range.start, found.range.end, usage_number(usage))
 }
 
 // The table with the list's entries in its first places, and its fields as given.
@@ -115,10 +113,7 @@ pub(crate) fn has_entries(
 
 // Whether nothing of the table was changed, the places behind its entries neither.
 fn is_as_found(table: AddressSpaceManager, count: u64, list: &[u64]) -> bool {
-    if table.count as u64 == count {
-        return has_entries(table, 0, MAX_ADDRESS_RANGES, list, 0);
-    }
-    false
+    table.count as u64 == count && has_entries(table, 0, MAX_ADDRESS_RANGES, list, 0)
 }
 
 // A refusal: its number, the flag, and whether the table is as found.

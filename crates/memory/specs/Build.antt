@@ -17,11 +17,11 @@ use Rattle.address_space.specs.declared.table.AddressRange.{AddressRange}
 use Rattle.address_space.specs.declared.table.AddressSpaceManager.{AddressSpaceManager}
 use Rattle.address_space.specs.declared.usage.AddressUsage.the-variants.{Free}
 use Rattle.address_space.specs.Table.{entry, poolOf, tableWith}
+use Rattle.address_space.specs.Usage.{usageOf}
 use Rattle.memory.specs.declared.builder.AddressSpaceManagerBuilder.{AddressSpaceManagerBuilder}
 use Rattle.memory.specs.declared.init.Init.{Init}
 use Rattle.memory.specs.declared.init.Initialized.the-variants.{Table, Refused}
 use Rattle.memory.specs.Rows.{rowsRefusal}
-use Rattle.memory.specs.Usage.{usageOf}
 use Rattle.memory.specs.Used.{anyOutside, usedOf, usedRefusal}
 
 -- what a build comes to: a refusal's number, or the table's entries

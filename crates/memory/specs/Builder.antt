@@ -11,10 +11,10 @@ use Rattle.memory_range.specs.Range.{splitAt}
 use Rattle.memory_range.specs.Valid.{pageSize, validRange}
 use Rattle.address_space.specs.declared.usage.ReservedMemoryType.{ReservedMemoryType}
 use Rattle.address_space.specs.declared.usage.ReservedMemoryType.the-variants.{Vtl2Config, Vtl2Reserved, SidecarImage, TdxPageTables, BootshimLogBuffer, PersistedStateHeader, PersistedStatePayload}
+use Rattle.address_space.specs.Usage.{reservedNumber}
 use Rattle.memory.specs.declared.builder.AddressSpaceManagerBuilder.{AddressSpaceManagerBuilder}
 use Rattle.memory.specs.declared.builder.OptionRange.{OptionRange}
 use Rattle.memory.specs.declared.builder.OptionRange.the-variants.{Some, None}
-use Rattle.memory.specs.Usage.{reservedNumber}
 
 -- with the used range and the persisted state, and nothing else
 abbrev pub builderOf : MemoryRange → MemoryRange → AddressSpaceManagerBuilder

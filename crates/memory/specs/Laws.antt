@@ -1,5 +1,4 @@
 -- Laws of the build.
-pub mod Usage
 pub mod Listed
 pub mod Reserved
 pub mod Rows

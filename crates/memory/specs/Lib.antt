@@ -1,4 +1,3 @@
-pub mod Usage
 pub mod Builder
 pub mod Rows
 pub mod Used

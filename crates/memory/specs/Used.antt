@@ -20,9 +20,9 @@ use Rattle.memory_range.specs.Range.{overlapRanges, holds}
 use Rattle.range_lists.specs.Sort.{sortByStart}
 use Rattle.range_lists.specs.Walk.{walk}
 use Rattle.address_space.specs.declared.usage.ReservedMemoryType.the-variants.{Vtl2GpaPool}
+use Rattle.address_space.specs.Usage.{usedNumber}
 use Rattle.memory.specs.declared.builder.AddressSpaceManagerBuilder.{AddressSpaceManagerBuilder}
 use Rattle.memory.specs.Builder.{allAs, reservedOf}
-use Rattle.memory.specs.Usage.{usedNumber}
 
 -- at most so many pool ranges, and so many used pieces with them
 abbrev pub maxPools : ℕ

@@ -8,7 +8,6 @@ mod fill;
 mod init;
 mod reserved;
 mod rows;
-mod usage;
 mod used;
 
 pub use builder::AddressSpaceManagerBuilder;

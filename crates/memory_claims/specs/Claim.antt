@@ -27,10 +27,9 @@ use Rattle.address_space.specs.declared.usage.AddressUsage.the-variants.{Free, 
 use Rattle.address_space.specs.declared.usage.ReservedMemoryType.the-variants.{Vtl2GpaPool}
 use Rattle.address_space.specs.Fit.{onAskedNode}
 use Rattle.address_space.specs.Table.{maxAddressRanges, rangesAt}
-use Rattle.address_space.specs.Usage.{usageFor}
+use Rattle.address_space.specs.Usage.{usageOf, usageFor}
 use Rattle.memory.specs.declared.builder.AddressSpaceManagerBuilder.{AddressSpaceManagerBuilder}
 use Rattle.memory.specs.Builder.{allAs, reservedOf}
-use Rattle.memory.specs.Usage.{usageOf}
 
 -- an entry's range with its node
 abbrev pub nodedRange : AddressRange → TaggedRange

@@ -52,10 +52,7 @@ impl MemoryRange {
         if other.end <= other.start {
             return true;
         }
-        if self.start <= other.start {
-            return other.end <= self.end;
-        }
-        false
+        self.start <= other.start && other.end <= self.end
     }
 
     // Whether some byte is in both.

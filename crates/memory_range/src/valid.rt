@@ -12,12 +12,7 @@ impl MemoryRange {
     pub fn is_valid(self) -> bool
         ensures { λ r. ⌜ r ≡ validRange self ⌝ }
     {
-        if self.start < self.end {
-            if self.start % PAGE_SIZE == 0 {
-                return self.end % PAGE_SIZE == 0;
-            }
-        }
-        false
+        self.start < self.end && (self.start % PAGE_SIZE == 0 && self.end % PAGE_SIZE == 0)
     }
 }
 

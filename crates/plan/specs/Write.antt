@@ -26,9 +26,9 @@ abbrev pub types : List MemoryVtlType
 types =
     vtl.Ram ∷
     vtl.Config ∷
+    vtl.Reserved ∷
     vtl.SidecarImage ∷
     vtl.SidecarNode ∷
-    vtl.Reserved ∷
     vtl.GpaPool ∷
     vtl.TdxPageTables ∷
     vtl.BootshimLogBuffer ∷

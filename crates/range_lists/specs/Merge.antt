@@ -1,5 +1,5 @@
 -- Touching ranges of one type joined (docs/SPEC.md, section 7).
-use mathlib.Core.Bool.{Bool, cond, _&&_}
+use mathlib.Core.Bool.{Bool, false, cond, _&&_}
 use mathlib.Core.List.{List, [], _∷_}
 use lib.Dec.{eqb}
 use lib.ListN.{drop}
@@ -11,6 +11,11 @@ use Rattle.memory_range.specs.List.{tagged}
 -- whether y goes on where x ends, with the same tag
 abbrev pub continues : TaggedRange → TaggedRange → Bool
 continues x y = eqb (x .range .end) (y .range .start) && eqb (x .tag) (y .tag)
+
+-- whether the first of a list, where it has one, continues x
+abbrev pub continuedBy : TaggedRange → List TaggedRange → Bool
+continuedBy x [] = false
+continuedBy x (y ∷ ys) = continues x y
 
 -- x in front of a joined list: one range with the first of them where that continues it
 abbrev pub mergeFirst : TaggedRange → List TaggedRange → List TaggedRange

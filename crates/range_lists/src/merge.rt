@@ -2,7 +2,7 @@
 ghost use mathlib.Core.Path.{_≡_};
 ghost use lib.ListN.{drop};
 ghost use Rattle.memory_range.specs.List.{taggedOf};
-ghost use Rattle.range_lists.specs.Merge.{mergeAdjacent, mergeStepped};
+ghost use Rattle.range_lists.specs.Merge.{continuedBy, mergeAdjacent, mergeStepped};
 use memory_range::MemoryRange;
 use memory_range::TaggedRange;
 use memory_range::tagged_count;
@@ -11,6 +11,22 @@ use memory_range::tagged_count;
 pub enum MergeStep {
     Range(TaggedRange, usize),
     End,
+}
+
+// Whether the range at the index goes on where the given one ends, and has its tag.
+fn continues_at<'a>(
+    starts: &'a [u64],
+    ends: &'a [u64],
+    tags: &'a [u32],
+    at: usize,
+    previous: TaggedRange,
+) -> bool
+    ensures { λ r. ⌜ r ≡ continuedBy previous (drop at (taggedOf (now (starts .entry)) (now (ends .entry)) (now (tags .entry)))) ⌝ }
+{
+    if tagged_count(starts, ends, tags) <= at {
+        return false;
+    }
+    previous.range.end == starts[at] && previous.tag == tags[at]
 }
 
 // The range at the index, with the ranges after it that go on where it ends and have its tag.
@@ -23,41 +39,20 @@ pub fn merge_adjacent_ranges<'a>(
     ensures { λ r. ⌜ mergeAdjacent (drop at (taggedOf (now (starts .entry)) (now (ends .entry)) (now (tags .entry))))
         ≡ mergeStepped (taggedOf (now (starts .entry)) (now (ends .entry)) (now (tags .entry))) r ⌝ }
 {
-    let count = tagged_count(starts, ends, tags);
-    if count <= at {
+    if tagged_count(starts, ends, tags) <= at {
         return MergeStep::End;
     }
-    let start = starts[at];
-    let tag = tags[at];
-    let mut end = ends[at];
+    let mut joined = TaggedRange {
+        range: MemoryRange {
+            start: starts[at],
+            end: ends[at],
+        },
+        tag: tags[at],
+    };
     let mut next = at + 1;
-    while next < count {
-        if starts[next] != end {
-            return MergeStep::Range(
-                TaggedRange {
-                    range: MemoryRange { start, end },
-                    tag,
-                },
-                next,
-            );
-        }
-        if tags[next] != tag {
-            return MergeStep::Range(
-                TaggedRange {
-                    range: MemoryRange { start, end },
-                    tag,
-                },
-                next,
-            );
-        }
-        end = ends[next];
+    while continues_at(starts, ends, tags, next, joined) {
+        joined.range.end = ends[next];
         next += 1;
     }
-    MergeStep::Range(
-        TaggedRange {
-            range: MemoryRange { start, end },
-            tag,
-        },
-        next,
-    )
+    MergeStep::Range(joined, next)
 }

@@ -142,10 +142,7 @@ fn pass_next<'a>(
 fn is_open(count: usize, passed: usize) -> bool
     ensures { λ r. ⌜ r ≡ isOpen count passed ⌝ }
 {
-    if passed % 2 == 1 {
-        return passed / 2 < count;
-    }
-    false
+    passed % 2 == 1 && passed / 2 < count
 }
 
 // The piece from the cursor up to an address, with the items that are open there.

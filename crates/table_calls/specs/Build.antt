@@ -11,6 +11,7 @@ use Rattle.memory.specs.declared.builder.OptionRange.{OptionRange}
 use Rattle.memory.specs.declared.builder.OptionRange.the-variants as option
 use Rattle.memory.specs.Build.{Build, build}
 use Rattle.memory.specs.Build as outcome
+use Rattle.table_words.specs.Code.{badNumber}
 use Rattle.table_words.specs.List.{rangesIn, ramRows, ramsIn, nodesGood}
 
 -- a range that is 0 to 0 is absent
@@ -41,13 +42,9 @@ abbrev pub givenGood : List ℕ → List ℕ → List ℕ → List ℕ → Bool
 givenGood ram reserved configs pools =
     listGood 3 ram && (eqb (length reserved) 8 && (listGood 2 configs && (listGood 2 pools && nodesGood (ramRows ram))))
 
--- the answer to lists that stand for nothing
-abbrev pub badLists : ℕ
-badLists = 254
-
 -- what a build from words comes to, on a table of so many entries
 abbrev pub wordsBuild : MemoryRange → MemoryRange → ℕ → List ℕ → List ℕ → List ℕ → List ℕ → Build
 wordsBuild used state count ram reserved configs pools =
     cond (givenGood ram reserved configs pools)
     (build (builderOf used state reserved) count (ramsIn ram) (rangesIn configs) (rangesIn pools))
-    (outcome.refused badLists)
+    (outcome.refused badNumber)

@@ -20,6 +20,7 @@ use Rattle.address_space.specs.declared.table.AddressRange.{AddressRange}
 use Rattle.address_space.specs.Request.{Outcome, requested, searchRefusal}
 use Rattle.address_space.specs.Request as outcome
 use Rattle.address_space.specs.Usage.{isPool}
+use Rattle.table_words.specs.Code.{badNumber}
 use Rattle.table_words.specs.Rows.{rows}
 use Rattle.table_words.specs.Table.{Table, table}
 
@@ -47,23 +48,19 @@ nodeGood w = eqb w noneWord || ltb w (2 ^ 32)
 abbrev pub requestGood : List ℕ → Bool
 requestGood r = nodeGood (getD r 0 0) && (leb (getD r 2 0) 2 && leb (getD r 3 0) 1)
 
--- the answer to words that stand for no request
-abbrev pub badRequest : ℕ
-badRequest = 254
-
 -- that the words stand for no request, or rows 22 to 25 of it, on a table with these entries
 abbrev pub wordsRefusal : List ℕ → List AddressRange → Option ℕ
 wordsRefusal r es =
     cond (requestGood r)
     (searchRefusal (nodeOf (getD r 0 0)) (getD r 1 0) (policyOf (getD r 3 0)) (alignmentOf (getD r 4 0)) es)
-    (some badRequest)
+    (some badNumber)
 
 -- what the words of a request come to on such a table
 abbrev pub wordsOutcome : List ℕ → List AddressRange → Outcome
 wordsOutcome r es =
     cond (requestGood r)
     (requested (nodeOf (getD r 0 0)) (getD r 1 0) (typeOf (getD r 2 0)) (policyOf (getD r 3 0)) (alignmentOf (getD r 4 0)) es)
-    (outcome.refused badRequest)
+    (outcome.refused badNumber)
 
 -- the words of an answer: the number, and the range with its node, 0 where refused
 abbrev pub rangeAnswer : AllocatedRange → List ℕ

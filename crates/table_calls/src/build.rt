@@ -13,6 +13,7 @@ use memory::Init;
 use memory::Initialized;
 use memory::OptionRange;
 use memory_range::MemoryRange;
+use table_words::BOOTPLAN_BAD_NUMBER;
 use table_words::nodes_good;
 use table_words::read_ram;
 use table_words::read_ranges;
@@ -20,9 +21,6 @@ use table_words::read_ranges;
 // At most so many items of a list are taken. This is above the bounds of rows 15, 17 and 20, so that a
 // list that is too long for its row is refused by it, and rows 4 and 5 before it.
 const LIST_ROOM: usize = 128;
-
-// The answer to lists that stand for nothing.
-pub const BAD_LISTS: u8 = 254;
 
 fn option_of(start: u64, end: u64) -> OptionRange
     ensures { λ r. ⌜ r ≡ optionOf start end ⌝ }
@@ -53,10 +51,7 @@ fn list_good(words: &[u64], width: usize) -> bool
     requires { ⌜ 0 < width ⌝ }
     ensures { λ r. ⌜ r ≡ listGood width (now (words .entry)) ⌝ }
 {
-    if words.len() % width == 0 {
-        return words.len() / width <= LIST_ROOM;
-    }
-    false
+    words.len() % width == 0 && words.len() / width <= LIST_ROOM
 }
 
 fn given_good(ram: &[u64], reserved: &[u64], configs: &[u64], pools: &[u64]) -> bool
@@ -133,7 +128,7 @@ pub fn build_words(
 {
     if !given_good(ram, reserved, configs, pools) {
         return Init {
-            answer: Initialized::Refused(BAD_LISTS),
+            answer: Initialized::Refused(BOOTPLAN_BAD_NUMBER),
             manager,
         };
     }

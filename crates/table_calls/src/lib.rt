@@ -5,12 +5,10 @@ mod pool;
 mod ranges;
 mod request;
 
-pub use build::BAD_LISTS;
 pub use build::build_words;
 pub use pool::PIECES_ROOM;
 pub use pool::write_pieces;
 pub use ranges::RANGES_ROOM;
 pub use ranges::write_vtl2_ranges;
-pub use request::BAD_REQUEST;
 pub use request::REQUEST_WORDS;
 pub use request::answer_requests;

@@ -16,11 +16,9 @@ use host_params::AllocationType;
 use host_params::OptionU32;
 use host_params::OptionU64;
 use refusal::Rows;
+use table_words::BOOTPLAN_BAD_NUMBER;
 use table_words::NODE_BOUND;
 use table_words::put_four;
-
-// The answer to a request whose words stand for nothing.
-pub const BAD_REQUEST: u8 = 254;
 
 // A request has five words: node, length, type, policy, alignment. Its answer has four.
 pub const REQUEST_WORDS: usize = 5;
@@ -76,12 +74,7 @@ fn request_good(row: &[u64]) -> bool
     requires { ⌜ length (now row) ≡ 5 ⌝ }
     ensures { λ r. ⌜ r ≡ requestGood (now (row .entry)) ⌝ }
 {
-    if node_good(row[0]) {
-        if row[2] <= 2 {
-            return row[3] <= 1;
-        }
-    }
-    false
+    node_good(row[0]) && (row[2] <= 2 && row[3] <= 1)
 }
 
 // Whether the words stand for a request, and rows 22 to 25 of it.
@@ -90,7 +83,7 @@ fn check_words(manager: AddressSpaceManager, row: &[u64]) -> Rows
     ensures { λ r. ⌜ r ≡ rowsAs (wordsRefusal (now (row .entry)) (entriesOf manager)) ⌝ }
 {
     if !request_good(row) {
-        return Rows::Refused(BAD_REQUEST);
+        return Rows::Refused(BOOTPLAN_BAD_NUMBER);
     }
     let node = node_of(row[0]);
     let policy = policy_of(row[3]);

@@ -12,7 +12,7 @@ use Rattle.address_space.specs.declared.table.AddressSpaceManager.{AddressSpace
 use Rattle.address_space.specs.Table.{entriesOf, poolOf, entry, emptyTable, maxAddressRanges, tableWith}
 use Rattle.table_words.specs.declared.read.TableRead.{TableRead}
 use Rattle.table_words.specs.Rows.{rows}
-use Rattle.table_words.specs.Usage.{usageNumber, usageOf}
+use Rattle.table_words.specs.Usage.{usageWord, usageOfWord}
 
 -- what words stand for: entries and the flag
 pub record Table : Type 0 where
@@ -31,14 +31,14 @@ tableLength = 1026
 
 -- an entry's words: start, end, node, usage
 abbrev pub entryWords : AddressRange → List ℕ
-entryWords e = e .range .start ∷ e .range .end ∷ e .vnode ∷ usageNumber (e .usage) ∷ []
+entryWords e = e .range .start ∷ e .range .end ∷ e .vnode ∷ usageWord (e .usage) ∷ []
 
 -- whether words stand for an entry, and which
 abbrev pub entryGood : List ℕ → Bool
 entryGood r = ltb (getD r 2 0) (2 ^ 32) && leb (getD r 3 0) 10
 
 abbrev pub entryOf : List ℕ → AddressRange
-entryOf r = entry (range (getD r 0 0) (getD r 1 0)) (getD r 2 0) (usageOf (getD r 3 0))
+entryOf r = entry (range (getD r 0 0) (getD r 1 0)) (getD r 2 0) (usageOfWord (getD r 3 0))
 
 abbrev pub allGood : List (List ℕ) → Bool
 allGood [] = true

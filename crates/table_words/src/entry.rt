@@ -3,7 +3,7 @@ ghost use mathlib.Core.Path.{_≡_};
 ghost use mathlib.Core.Bool.{true};
 ghost use lib.ListN.{length};
 ghost use Rattle.table_words.specs.Table.{entryGood, entryOf};
-use crate::usage::usage_of;
+use crate::usage::usage_of_word;
 use address_space::AddressRange;
 use memory_range::MemoryRange;
 
@@ -17,10 +17,7 @@ pub(crate) fn entry_good(row: &[u64]) -> bool
     requires { ⌜ length (now row) ≡ 4 ⌝ }
     ensures { λ r. ⌜ r ≡ entryGood (now (row .entry)) ⌝ }
 {
-    if row[2] < NODE_BOUND {
-        return row[3] <= LAST_USAGE;
-    }
-    false
+    row[2] < NODE_BOUND && row[3] <= LAST_USAGE
 }
 
 pub(crate) fn entry_of(row: &[u64]) -> AddressRange
@@ -31,7 +28,7 @@ pub(crate) fn entry_of(row: &[u64]) -> AddressRange
         start: row[0],
         end: row[1],
     };
-    let usage = usage_of(row[3]);
+    let usage = usage_of_word(row[3]);
     AddressRange {
         range,
         vnode: row[2] as u32,

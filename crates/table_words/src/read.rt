@@ -64,12 +64,7 @@ fn read_entries(words: &[u64], count: usize, flag: bool) -> TableRead
 fn head_good(words: &[u64]) -> bool
     ensures { λ r. ⌜ r ≡ headGood (now (words .entry)) ⌝ }
 {
-    if words.len() == TABLE_WORDS {
-        if words[0] <= MAX_ADDRESS_RANGES as u64 {
-            return words[1] <= 1;
-        }
-    }
-    false
+    words.len() == TABLE_WORDS && (words[0] <= MAX_ADDRESS_RANGES as u64 && words[1] <= 1)
 }
 
 // What lies behind the count of entries is not looked at.

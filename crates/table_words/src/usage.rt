@@ -1,50 +1,27 @@
-// Numbers for usages.
+// Words for usages: 0 for free memory, and else the number of its usage plus 1.
 ghost use mathlib.Core.Path.{_≡_};
-ghost use Rattle.table_words.specs.Usage.{usageOf, usageNumber, reservedNumber};
+ghost use Prim.Native.Nat.{_≤_};
+ghost use Rattle.table_words.specs.Usage.{usageWord, usageOfWord};
 use address_space::AddressUsage;
-use address_space::ReservedMemoryType;
+use address_space::reserved_number;
+use address_space::usage_of;
 
-// Of a number above 10 the last usage.
-pub(crate) fn usage_of(number: u64) -> AddressUsage
-    ensures { λ r. ⌜ r ≡ usageOf number ⌝ }
+pub(crate) fn usage_of_word(word: u64) -> AddressUsage
+    requires { ⌜ word ≤ 10 ⌝ }
+    ensures { λ r. ⌜ r ≡ usageOfWord word ⌝ }
 {
-    match number {
-        0 => AddressUsage::Free,
-        1 => AddressUsage::Used,
-        2 => AddressUsage::Reserved(ReservedMemoryType::Vtl2Config),
-        3 => AddressUsage::Reserved(ReservedMemoryType::Vtl2Reserved),
-        4 => AddressUsage::Reserved(ReservedMemoryType::SidecarImage),
-        5 => AddressUsage::Reserved(ReservedMemoryType::SidecarNode),
-        6 => AddressUsage::Reserved(ReservedMemoryType::Vtl2GpaPool),
-        7 => AddressUsage::Reserved(ReservedMemoryType::TdxPageTables),
-        8 => AddressUsage::Reserved(ReservedMemoryType::BootshimLogBuffer),
-        9 => AddressUsage::Reserved(ReservedMemoryType::PersistedStateHeader),
-        _ => AddressUsage::Reserved(ReservedMemoryType::PersistedStatePayload),
+    if word == 0 {
+        return AddressUsage::Free;
     }
+    usage_of((word - 1) as u32)
 }
 
-fn reserved_number(reserved: ReservedMemoryType) -> u64
-    ensures { λ r. ⌜ r ≡ reservedNumber reserved ⌝ }
-{
-    match reserved {
-        ReservedMemoryType::Vtl2Config => 2,
-        ReservedMemoryType::Vtl2Reserved => 3,
-        ReservedMemoryType::SidecarImage => 4,
-        ReservedMemoryType::SidecarNode => 5,
-        ReservedMemoryType::Vtl2GpaPool => 6,
-        ReservedMemoryType::TdxPageTables => 7,
-        ReservedMemoryType::BootshimLogBuffer => 8,
-        ReservedMemoryType::PersistedStateHeader => 9,
-        ReservedMemoryType::PersistedStatePayload => 10,
-    }
-}
-
-pub(crate) fn usage_number(usage: AddressUsage) -> u64
-    ensures { λ r. ⌜ r ≡ usageNumber usage ⌝ }
+pub(crate) fn usage_word(usage: AddressUsage) -> u64
+    ensures { λ r. ⌜ r ≡ usageWord usage ⌝ }
 {
     match usage {
         AddressUsage::Free => 0,
         AddressUsage::Used => 1,
-        AddressUsage::Reserved(reserved) => reserved_number(reserved),
+        AddressUsage::Reserved(reserved) => reserved_number(reserved) as u64 + 1,
     }
 }

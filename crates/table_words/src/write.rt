@@ -6,7 +6,7 @@ ghost use lib.Seq.{sets};
 ghost use Rattle.address_space.specs.Table.{entriesOf, poolOf};
 ghost use Rattle.table_words.specs.Table.{tableLength, entriesWords, written};
 use crate::read::TABLE_WORDS;
-use crate::usage::usage_number;
+use crate::usage::usage_word;
 use address_space::AddressSpaceManager;
 use memory_range::put_address;
 
@@ -51,7 +51,7 @@ fn write_entries(words: &mut [u64], manager: AddressSpaceManager)
             entry.range.start,
             entry.range.end,
             entry.vnode as u64,
-            usage_number(usage),
+            usage_word(usage),
         );
         i += 1;
     }

@@ -88,9 +88,9 @@ typeOf n =
     getD
     (vtl.Ram
     ∷ vtl.Config
+    ∷ vtl.Reserved
     ∷ vtl.SidecarImage
     ∷ vtl.SidecarNode
-    ∷ vtl.Reserved
     ∷ vtl.GpaPool
     ∷ vtl.TdxPageTables
     ∷ vtl.BootshimLogBuffer
@@ -104,9 +104,9 @@ type-of-number : (t : MemoryVtlType) → typeOf (typeNumber t) ≡ t
 unfolding typeOf
 type-of-number vtl.Ram = refl
 type-of-number vtl.Config = refl
+type-of-number vtl.Reserved = refl
 type-of-number vtl.SidecarImage = refl
 type-of-number vtl.SidecarNode = refl
-type-of-number vtl.Reserved = refl
 type-of-number vtl.GpaPool = refl
 type-of-number vtl.TdxPageTables = refl
 type-of-number vtl.BootshimLogBuffer = refl

@@ -11,17 +11,17 @@ use Rattle.address_space.specs.Laws.Split.{entries-with}
 use Rattle.memory.specs.declared.init.Init.{Init}
 use Rattle.memory.specs.declared.init.Initialized.the-variants as answer
 use Rattle.memory.specs.Build.{Build, refused, built, hasPool, initAs}
+use Rattle.table_words.specs.Code as code
+use Rattle.table_words.specs.Code.{badNumber, badTable}
 use Rattle.table_words.specs.declared.read.TableRead.{TableRead}
 use Rattle.table_words.specs.List.{rangesIn}
 use Rattle.table_words.specs.Table.{tableIn, tableOf, readAs}
 use Rattle.table_words.specs.Laws.Table.{read-none, read-some}
-use Rattle.table_calls.specs.Build.{givenGood, badLists, wordsBuild}
-use Rattle.bootplan_c.specs.Code as code
-use Rattle.bootplan_c.specs.Code.{badNumber, badTable}
+use Rattle.table_calls.specs.Build.{givenGood, wordsBuild}
 use Rattle.bootplan_c.specs.Build.{Given, builtCall, buildCall}
 
 -- lists that stand for nothing are refused, and others are built from
-by-lists : (good flag : Bool) (o : Build) → cond good (builtCall flag o) (code.refused badNumber) ≡ builtCall flag (cond good o (refused badLists))
+by-lists : (good flag : Bool) (o : Build) → cond good (builtCall flag o) (code.refused badNumber) ≡ builtCall flag (cond good o (refused badNumber))
 by-lists true flag o = refl
 by-lists false flag o = refl
 

@@ -13,12 +13,12 @@ use Rattle.address_space.specs.Laws.Split.{entries-with}
 use Rattle.private_pool.specs.declared.pool.PoolPlaced.the-variants.{Ranges, Refused}
 use Rattle.private_pool.specs.declared.pool.PrivatePool.{PrivatePool}
 use Rattle.private_pool.specs.Pool.{Placement, refused, placed, noRanges, poolPlaced, poolAs}
+use Rattle.table_words.specs.Code as code
+use Rattle.table_words.specs.Code.{noRoom, badTable}
 use Rattle.table_words.specs.Table.{tableOf, readAs}
 use Rattle.table_words.specs.declared.read.TableRead.{TableRead}
 use Rattle.table_words.specs.Laws.Table.{read-none, read-some}
 use Rattle.table_calls.specs.Pool.{piecesRoom}
-use Rattle.bootplan_c.specs.Code as code
-use Rattle.bootplan_c.specs.Code.{noRoom, badTable}
 use Rattle.bootplan_c.specs.Pool.{placedCall, poolCall}
 
 module _ (pages : ℕ) (split : Bool) (words : List ℕ) (room : ℕ) where

@@ -6,11 +6,11 @@ use mathlib.Core.List.{List}
 use borrow.Author.Tests.{lt-ltb, le-ltb}
 use Rattle.address_space.specs.List.{vtl2Ranges}
 use Rattle.address_space.specs.Table.{entriesOf}
+use Rattle.table_words.specs.Code.{refused, done, noRoom, badTable}
 use Rattle.table_words.specs.declared.read.TableRead.{TableRead}
 use Rattle.table_words.specs.Table.{tableOf, readAs}
 use Rattle.table_words.specs.Laws.Table.{read-none, read-some}
 use Rattle.table_calls.specs.Ranges.{rangesRoom}
-use Rattle.bootplan_c.specs.Code.{refused, done, noRoom, badTable}
 use Rattle.bootplan_c.specs.Ranges.{rangesCall}
 
 module _ (words : List ℕ) (room : ℕ) where

@@ -5,12 +5,12 @@ use mathlib.Core.Path.{_≡_}
 use mathlib.Core.List.{List}
 use borrow.Author.Tests.{lt-ltb, le-ltb, eq-eqb, ne-eqb}
 use lib.ListN.{length}
+use Rattle.table_words.specs.Code as code
+use Rattle.table_words.specs.Code.{noRoom, badNumber, badTable}
 use Rattle.table_words.specs.Table.{tableIn, tableOf, readAs}
 use Rattle.table_words.specs.declared.read.TableRead.{TableRead}
 use Rattle.table_words.specs.Laws.Table.{read-none, read-some}
 use Rattle.table_calls.specs.Request.{answersOn, afterAll, requestRows}
-use Rattle.bootplan_c.specs.Code as code
-use Rattle.bootplan_c.specs.Code.{noRoom, badNumber, badTable}
 use Rattle.bootplan_c.specs.Request.{requestCall}
 
 module _ (words requests : List ℕ) (room : ℕ) where

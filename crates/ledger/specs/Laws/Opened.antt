@@ -21,10 +21,9 @@ use Rattle.range_lists.specs.Laws.Walk.{walk-ends}
 use Rattle.address_space.specs.declared.table.AddressRange.{AddressRange}
 use Rattle.address_space.specs.declared.usage.AddressUsage.{AddressUsage}
 use Rattle.address_space.specs.Table.{rangesAt}
-use Rattle.address_space.specs.Usage.{isFree}
+use Rattle.address_space.specs.Usage.{isFree, usageOf}
 use Rattle.memory.specs.declared.builder.AddressSpaceManagerBuilder.{AddressSpaceManagerBuilder}
 use Rattle.memory.specs.Build.{built, tableOf, build}
-use Rattle.memory.specs.Usage.{usageOf}
 use Rattle.memory.specs.Used.{usedOf}
 use Rattle.memory.specs.Laws.Overlap.{HasByte, valid-have, singles-each, used-ordered}
 use Rattle.memory.specs.Laws.Rows.{rows-passed}

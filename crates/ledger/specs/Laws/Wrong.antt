@@ -17,11 +17,11 @@ use Rattle.address_space.specs.declared.usage.ReservedMemoryType.the-variants.{
 use Rattle.address_space.specs.declared.table.AddressRange.{AddressRange}
 use Rattle.address_space.specs.Request.{requested, allocated}
 use Rattle.address_space.specs.Table.{entry}
+use Rattle.address_space.specs.Usage.{usageOf}
 use Rattle.memory.specs.declared.builder.AddressSpaceManagerBuilder.{AddressSpaceManagerBuilder}
 use Rattle.memory.specs.Build.{build, filled, tableOf}
 use Rattle.memory.specs.Builder.{builderOf, singlesValid}
 use Rattle.memory.specs.Rows.{rowsRefusal}
-use Rattle.memory.specs.Usage.{usageOf}
 use Rattle.memory.specs.Used.{usedOf, usedRefusal}
 use Rattle.memory_claims.specs.Claim.{Note}
 use Rattle.private_pool.specs.Pool.{poolPlaced, splitPlaced}

@@ -14,11 +14,11 @@ use Rattle.memory_range.specs.Range.{range}
 use Rattle.memory_range.specs.Laws.List.{getD-ranges}
 use Rattle.address_space.specs.declared.usage.ReservedMemoryType.{ReservedMemoryType}
 use Rattle.address_space.specs.declared.usage.ReservedMemoryType.the-variants.{Vtl2Config, Vtl2Reserved, SidecarImage, TdxPageTables, BootshimLogBuffer, PersistedStateHeader, PersistedStatePayload}
+use Rattle.address_space.specs.Usage.{reservedNumber}
 use Rattle.memory.specs.declared.builder.AddressSpaceManagerBuilder.{AddressSpaceManagerBuilder}
 use Rattle.memory.specs.declared.builder.OptionRange.{OptionRange}
 use Rattle.memory.specs.declared.builder.OptionRange.the-variants.{Some, None}
 use Rattle.memory.specs.Builder.{reservedAs, allAs, optionAs, optionCount, stateOf, givenRange, optionsOf, reservedOf, reservedCount}
-use Rattle.memory.specs.Usage.{reservedNumber}
 use Rattle.memory.specs.Laws.Listed.{put-behind}
 
 pub option-few : (r : OptionRange) → optionCount r ≤ 1

@@ -8,10 +8,10 @@ use Rattle.range_lists.specs.Walk.{walkFrom}
 use Rattle.address_space.specs.declared.usage.AddressUsage.the-variants.{Free, Used, Reserved}
 use Rattle.address_space.specs.declared.usage.ReservedMemoryType.the-variants.{PersistedStateHeader, PersistedStatePayload}
 use Rattle.address_space.specs.Table.{entry}
+use Rattle.address_space.specs.Usage.{usageOf}
 use Rattle.memory.specs.Build.{build, built, filled, tableOf}
 use Rattle.memory.specs.Builder.{builderOf, singlesValid}
 use Rattle.memory.specs.Rows.{rowsRefusal}
-use Rattle.memory.specs.Usage.{usageOf}
 use Rattle.memory.specs.Used.{usedOf, usedRefusal}
 
 pub one-built : build (builderOf (range 2097152 2113536) (range 2097152 2105344)) 0 (tagged 2097152 2162688 0 ∷ []) [] []

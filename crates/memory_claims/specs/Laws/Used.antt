@@ -19,9 +19,9 @@ use Rattle.memory_range.specs.Laws.Bytes.{counted, ordered-once}
 use Rattle.range_lists.specs.Laws.Sort.{sort-holders}
 use Rattle.memory_range.specs.Laws.Valid.{valid-parts}
 use Rattle.address_space.specs.declared.usage.ReservedMemoryType.the-variants.{Vtl2GpaPool}
+use Rattle.address_space.specs.Usage.{usageOf}
 use Rattle.memory.specs.declared.builder.AddressSpaceManagerBuilder.{AddressSpaceManagerBuilder}
 use Rattle.memory.specs.Builder.{singlesValid, allAs, reservedOf}
-use Rattle.memory.specs.Usage.{usageOf}
 use Rattle.memory.specs.Used.{maxPools, maxUsed, anyOverlap, anyOutside, piecesUsed, usedOf, poolsBad, usedRefusal}
 use Rattle.memory.specs.Laws.Overlap.{or-false-iff, singles-each, reserved-ordered, outside-bytes, used-ordered, used-length, used-refused-none}
 use Rattle.memory_claims.specs.Claim.{tagAt, saidBy, usageSaid}

@@ -20,8 +20,8 @@ use Rattle.memory_range.specs.Laws.Range.{held}
 use Rattle.range_lists.specs.Laws.Walk.{walk-ordered, walk-at}
 use Rattle.address_space.specs.declared.usage.AddressUsage.the-variants.{Free}
 use Rattle.address_space.specs.Table.{rangesAt}
+use Rattle.address_space.specs.Usage.{usedNumber, usageOf}
 use Rattle.memory.specs.Build.{tableEntry, tableEntries, tableOf}
-use Rattle.memory.specs.Usage.{usedNumber, usageOf}
 use Rattle.memory.specs.Used.{usedPiece, usedPieces, piecesOf}
 use Rattle.memory_claims.specs.Claim.{Note, note, noteAt, tagAt, saidBy}
 use Rattle.memory_claims.specs.Laws.Said.{tagOf, tag-item}

@@ -1,33 +1,35 @@
--- A turn of the loop that joins, by the item at the next index: one that goes on with the same tag is
--- joined to the range made so far, and before any other that range is whole.
+-- A turn of the loop that joins, by the ranges that are left: where the first of them continues the range
+-- made so far, it is joined to it; where it does not, or none is left, the range is whole.
 use Prim.Native.Nat.{ℕ, _+_, _<_, min}
-use mathlib.Core.Path.{_≡_, sym}
-use mathlib.Core.Bool.{false}
-use mathlib.Core.List.{List, _∷_}
-use borrow.Author.Tests.{eq-eqb, ne-eqb}
-use lib.ListN.{length, drop, getD}
+use mathlib.Core.Path.{_≡_, refl, ap, sym, _∙_}
+use mathlib.Core.Bool.{true, false, true≢false}
+use mathlib.Core.List.{List, [], _∷_}
+use native.Mathlib.Decide.{decLt}
+use native.Mathlib.Omega.{arith}
+use lib.ListN.{length, drop, getD, drop-of-length-le}
+use Rattle.memory_range.specs.declared.range.TaggedRange.{TaggedRange}
 use Rattle.memory_range.specs.List.{tagged, taggedOf}
-use Rattle.range_lists.specs.Merge.{continues, mergeFirst, mergeAdjacent}
-use Rattle.memory_range.specs.Laws.List.{next-tagged}
-use Rattle.range_lists.specs.Laws.Merge.{join-first, keep-first}
+use Rattle.memory_range.specs.Laws.List.{length-tagged, next-tagged}
+use Rattle.range_lists.specs.Merge.{continuedBy, mergeFirst, mergeAdjacent}
+use Rattle.range_lists.specs.Laws.Merge.{continued, join-first, keep-first}
 
-module _ (ss es ts : List ℕ) (start end tag next : ℕ) where
-  abbrev Whole : Type 0
-  Whole =
-      mergeFirst (tagged start end tag) (mergeAdjacent (drop next (taggedOf ss es ts)))
-      ≡ tagged start end tag ∷ mergeAdjacent (drop next (taggedOf ss es ts))
+pub whole : (x : TaggedRange) (ys : List TaggedRange) → continuedBy x ys ≡ false
+    → mergeFirst x (mergeAdjacent ys) ≡ x ∷ mergeAdjacent ys
+whole x [] h = refl
+whole x (y ∷ ys) h = keep-first x y (mergeAdjacent ys) h
 
-  module _ (below : next < min (length ss) (min (length es) (length ts))) where
-    pub joined : getD ss next 0 ≡ end → getD ts next 0 ≡ tag
-        → mergeFirst (tagged start end tag) (mergeAdjacent (drop next (taggedOf ss es ts)))
-        ≡ mergeFirst (tagged start (getD es next 0) tag) (mergeAdjacent (drop (next + 1) (taggedOf ss es ts)))
-    joined p q = rw (next-tagged ss es ts next below, p, q, join-first)
+module _ (x : TaggedRange) (ss es ts : List ℕ) (i : ℕ) (h : continuedBy x (drop i (taggedOf ss es ts)) ≡ true) where
+  -- past the last range there is none that continues
+  pub below : i < min (length ss) (min (length es) (length ts))
+  below = elim (decLt i (min (length ss) (min (length es) (length ts)))) [
+    | yes l ↦ l
+    | no l ↦ absurd (true≢false (sym h ∙ rw (drop-of-length-le (taggedOf ss es ts) {i = i} (omega (arith, length-tagged ss es ts)))))
+  ]
 
-    whole : continues (tagged start end tag) (tagged (getD ss next 0) (getD es next 0) (getD ts next 0)) ≡ false → Whole
-    whole h = rw (next-tagged ss es ts next below, keep-first)
-
-    pub other-start : (getD ss next 0 ≡ end → ⊥) → Whole
-    other-start p = whole (rw (ne-eqb _ _ (λ e. p (sym e))))
-
-    pub other-tag : getD ss next 0 ≡ end → (getD ts next 0 ≡ tag → ⊥) → Whole
-    other-tag p q = whole (rw (eq-eqb _ _ (sym p), ne-eqb _ _ (λ e. q (sym e))))
+  pub joined :
+      mergeFirst x (mergeAdjacent (drop i (taggedOf ss es ts)))
+      ≡ mergeFirst (tagged (x .range .start) (getD es i 0) (x .tag)) (mergeAdjacent (drop (i + 1) (taggedOf ss es ts)))
+  joined =
+      let n = next-tagged ss es ts i below in
+      let same = continued x (tagged (getD ss i 0) (getD es i 0) (getD ts i 0)) (sym (ap (continuedBy x) n) ∙ h) in
+      rw (n, same .0, same .1, join-first)

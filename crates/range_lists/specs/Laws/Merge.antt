@@ -15,7 +15,8 @@ use Rattle.memory_range.specs.List.{tagged, rangesIn}
 use Rattle.range_lists.specs.Merge.{continues, mergeFirst, mergeAdjacent}
 use Rattle.memory_range.specs.Laws.Range.{cut-once}
 
-continued : (x y : TaggedRange) → continues x y ≡ true → (x .range .end ≡ y .range .start) × (x .tag ≡ y .tag)
+-- what continues a range starts where it ends and has its tag
+pub continued : (x y : TaggedRange) → continues x y ≡ true → (x .range .end ≡ y .range .start) × (x .tag ≡ y .tag)
 continued x y h =
     let both = and-eq-true-iff (eqb (x .range .end) (y .range .start)) (eqb (x .tag) (y .tag)) .0 h in
     (eqb-true _ _ (both .0), eqb-true _ _ (both .1))

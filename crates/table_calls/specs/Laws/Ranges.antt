@@ -1,28 +1,26 @@
--- Laws of a table's ranges: by a step through it, and how many there are.
-use Prim.Native.Nat.{ℕ, suc, _≤_}
+-- Laws of a table's ranges: those from an index on, as they are handed out, and how many there are.
+use Prim.Native.Nat.{ℕ, suc, _+_, _<_, _≤_}
 use mathlib.Core.Path.{_≡_, refl, ap, _∙_}
 use mathlib.Core.List.{List, [], _∷_}
+use native.Mathlib.Numerals.{add-one}
 use native.Mathlib.Omega.{arith}
-use lib.ListN.{length, drop}
-use Rattle.memory_range.specs.declared.range.TaggedRange.{TaggedRange}
+use lib.ListN.{length, take, drop, getD, drop-of-length-le}
+use lib.Seq.{drop-cons, getD-take, length-take-le}
 use Rattle.range_lists.specs.Laws.Merge.{merge-count}
 use Rattle.address_space.specs.declared.list.Vtl2Range.{Vtl2Range}
-use Rattle.address_space.specs.declared.list.Vtl2RangeStep.{Vtl2RangeStep}
-use Rattle.address_space.specs.declared.list.Vtl2RangeStep.the-variants as step
 use Rattle.address_space.specs.declared.table.AddressRange.{AddressRange}
-use Rattle.address_space.specs.List.{typedRanges, vtl2Ranges, vtl2Stepped}
-use Rattle.address_space.specs.Usage.{typeNumber}
+use Rattle.address_space.specs.List.{numberedRange, numberedRanges, typedRanges, vtl2Ranges}
 
--- the range of a step's answer
-abbrev pub stepRange : Vtl2Range → TaggedRange
-stepRange x = record { range = x .range; tag = typeNumber (x .«vtl_type») }
+-- the first ranges of an array
+module _ (k : ℕ) (xs : List Vtl2Range) (enough : k ≤ length xs) (i : ℕ) where
+  pub range-next : (x : Vtl2Range) → i < k
+      → numberedRanges (drop i (take k xs)) ≡ numberedRange (getD xs i x) ∷ numberedRanges (drop (i + 1) (take k xs))
+  range-next x h =
+      let n = length-take-le k xs enough in
+      rw add-one (ap numberedRanges (drop-cons (take k xs) i x (omega arith)) ∙ rw (getD-take k xs i x h))
 
-module _ (es : List AddressRange) (at : ℕ) {r : Vtl2RangeStep} (e : vtl2Ranges (drop at es) ≡ vtl2Stepped es r) where
-  pub range-next : {x : Vtl2Range} {next : ℕ} → r ≡ step.Range x next → vtl2Ranges (drop at es) ≡ stepRange x ∷ vtl2Ranges (drop next es)
-  range-next s = e ∙ ap (vtl2Stepped es) s
-
-  pub range-none : r ≡ step.End → vtl2Ranges (drop at es) ≡ []
-  range-none s = e ∙ ap (vtl2Stepped es) s
+  pub range-none : k ≤ i → numberedRanges (drop i (take k xs)) ≡ []
+  range-none h = ap numberedRanges (drop-of-length-le (take k xs) {i = i} (omega (arith, length-take-le k xs enough)))
 
 typed-count : (es : List AddressRange) → length (typedRanges es) ≡ length es
 typed-count [] = refl

@@ -16,8 +16,9 @@ use Rattle.address_space.specs.Table.{entriesOf, poolOf}
 use Rattle.address_space.specs.Usage.{isPool}
 use Rattle.address_space.specs.Laws.Request.{search-refused}
 use Rattle.address_space.specs.Laws.Split.{entries-with}
+use Rattle.table_words.specs.Code.{badNumber}
 use Rattle.table_words.specs.Table.{Table, tableIn}
-use Rattle.table_calls.specs.Request.{nodeOf, typeOf, policyOf, alignmentOf, requestGood, badRequest, wordsRefusal, wordsOutcome, refusalAnswer, outcomeAnswer, answerWords, leftBy, answersOn, afterAll}
+use Rattle.table_calls.specs.Request.{nodeOf, typeOf, policyOf, alignmentOf, requestGood, wordsRefusal, wordsOutcome, refusalAnswer, outcomeAnswer, answerWords, leftBy, answersOn, afterAll}
 
 module _ (m : AddressSpaceManager) (t : AllocationType) where
   -- the words of an answer are those of the outcome, and the table is the one that the request leaves
@@ -43,11 +44,11 @@ module _ (m : AddressSpaceManager) (r : List ℕ) (rs : List (List ℕ)) {a : Al
 
 -- a test and the rows behind it: what they refuse is refused, and what passes them passes the test
 module _ (o : Option ℕ) where
-  by-refused : (b : Bool) (x : Outcome) (n : ℕ) → (o ≡ some n → x ≡ refused n) → cond b o (some badRequest) ≡ some n → cond b x (refused badRequest) ≡ refused n
+  by-refused : (b : Bool) (x : Outcome) (n : ℕ) → (o ≡ some n → x ≡ refused n) → cond b o (some badNumber) ≡ some n → cond b x (refused badNumber) ≡ refused n
   by-refused true x n f h = f h
   by-refused false x n f h = cc
 
-  by-passed : (b : Bool) → cond b o (some badRequest) ≡ none → b ≡ true
+  by-passed : (b : Bool) → cond b o (some badNumber) ≡ none → b ≡ true
   by-passed true h = refl
   by-passed false h = cc
 

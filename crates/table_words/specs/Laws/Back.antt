@@ -15,12 +15,13 @@ use Rattle.address_space.specs.declared.usage.AddressUsage.{AddressUsage}
 use Rattle.address_space.specs.declared.usage.AddressUsage.the-variants.{Free, Used, Reserved}
 use Rattle.address_space.specs.declared.usage.ReservedMemoryType.the-variants.{Vtl2Config, Vtl2Reserved, SidecarImage, SidecarNode, Vtl2GpaPool, TdxPageTables, BootshimLogBuffer, PersistedStateHeader, PersistedStatePayload}
 use Rattle.address_space.specs.Table.{maxAddressRanges}
+use Rattle.address_space.specs.Usage.{usageOf}
 use Rattle.table_words.specs.Rows.{rows}
 use Rattle.table_words.specs.Table.{table, tableLength, entryWords, entryOf, allGood, tableOf, flagWord, entriesWords, tableWords}
-use Rattle.table_words.specs.Usage.{usageNumber, usageOf}
+use Rattle.table_words.specs.Usage.{usageWord, usageOfWord}
 
-usage-again : (u : AddressUsage) → (usageOf (usageNumber u) ≡ u) × (leb (usageNumber u) 10 ≡ true)
-unfolding usageOf
+usage-again : (u : AddressUsage) → (usageOfWord (usageWord u) ≡ u) × (leb (usageWord u) 10 ≡ true)
+unfolding usageOfWord usageOf
 usage-again Free = (refl, refl)
 usage-again Used = (refl, refl)
 usage-again (Reserved Vtl2Config) = (refl, refl)

@@ -36,11 +36,12 @@ returns-2 c =
     rw (
       sym (t .before .before .is-free .ensures) ∙ t .before .if1 .taken,
       sym (t .on-asked-node .ensures) ∙ c .before .before .if2 .taken,
+      c .before .len .ensures,
       lt-leb _ _ (rw (c .before .len .ensures) at (c .if3 .left)),
     )
 
 returns-3 : tie.Need-returns-3
-returns-3 c = rw (sym (c .before .before .before .is-free .ensures) ∙ c .before .before .if1 .taken, sym (c .before .on-asked-node .ensures) ∙ c .if2 .left)
+returns-3 c = rw (sym (c .before .before .before .is-free .ensures) ∙ c .before .before .if1 .taken, sym (c .before .on-asked-node .ensures) ∙ c .if2 .left, c .if2 .left)
 
 returns-4 : tie.Need-returns-4
 returns-4 c = search needs

@@ -3,10 +3,10 @@ use mathlib.Core.Path.{_≡_, refl, ap, sym, _∙_}
 use borrow.Author.Needs.{needs}
 use borrow.Author.Tests.{not-true, not-false}
 use lib.ListN.{length}
-use Rattle.address_space.specs.Table.{entriesOf}
+use Rattle.address_space.specs.Table.{entriesOf, poolOf}
 use Rattle.private_pool.specs.Pool.{Placement, poolPlaced}
+use Rattle.table_words.specs.Code.{Call}
 use Rattle.table_words.specs.Table.{written}
-use Rattle.bootplan_c.specs.Code.{Call}
 use Rattle.bootplan_c.specs.Pool.{Placed, placedCall, poolCall}
 use Rattle.bootplan_c.specs.Laws.Pool.{pool-room, pool-bad, pool-read, answer-refused, answer-placed}
 use Rattle.bootplan_c.proofs.pool.bootplan_place_pool.Statement.{statement}
@@ -63,8 +63,10 @@ returns-4 c =
     let n = t .before .before .before .before .before in
     let p = n .before .before in
     let held = answer-placed (table-read p .read-table .result .manager) (placement p) (p .allocate-private-pool .ensures) (n .answer2 .given .1) in
-    let stored = written (start (table-read p) .args .table .now) (entriesOf (p .allocate-private-pool .result .manager)) in
-    rw (read p ∙ held .0) (refl, (t .write-table .ensures ∙ ap stored (held .1), (w .write-pieces .ensures, sym (held .2))))
+    let m = p .allocate-private-pool .result .manager in
+    let stored = written (start (table-read p) .args .table .now) (entriesOf m) in
+    let after : t .write-table .last .0 ≡ stored (poolOf m) = t .write-table .ensures in
+    rw (read p ∙ held .0) (refl, (after ∙ ap stored (held .1), (w .write-pieces .ensures, sym (held .2))))
 
 pub bootplan-place-pool-spec : {M : Type 1} → statement M
 bootplan-place-pool-spec =

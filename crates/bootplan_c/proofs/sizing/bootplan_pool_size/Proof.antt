@@ -8,14 +8,14 @@ returns : tie.Need-returns
 returns c =
     let p = c .before .before in
     let picked = p .pick-private-pool-size .ensures in
-    rw (← p .before .before .config-of .ensures, ← p .before .host-of .ensures, ← picked, c .enum-told .given .1)
+    rw (← p .before .before .config-of .ensures, ← p .before .given-number .ensures, ← picked, c .enum-told .given .1)
     (refl, refl)
 
 returns-2 : tie.Need-returns-2
 returns-2 c =
     let p = c .before .before .before in
     let picked = p .pick-private-pool-size .ensures in
-    rw (← p .before .before .config-of .ensures, ← p .before .host-of .ensures, ← picked, c .before .picked .given .1)
+    rw (← p .before .before .config-of .ensures, ← p .before .given-number .ensures, ← picked, c .before .picked .given .1)
     (refl, refl)
 
 pub bootplan-pool-size-spec : {M : Type 1} → statement M

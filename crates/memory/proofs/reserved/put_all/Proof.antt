@@ -10,8 +10,8 @@ use lib.Seq.{take-all}
 use Rattle.memory_range.specs.List.{rangesOf, firstTagged}
 use Rattle.memory_range.specs.Laws.List.{length-ranges}
 use Rattle.address_space.specs.declared.usage.ReservedMemoryType.{ReservedMemoryType}
+use Rattle.address_space.specs.Usage.{reservedNumber}
 use Rattle.memory.specs.Builder.{allAs}
-use Rattle.memory.specs.Usage.{reservedNumber}
 use Rattle.memory.specs.Laws.Reserved.{put-next}
 use Rattle.memory.proofs.reserved.put_all.Statement.{statement}
 use Rattle.memory.proofs.reserved.put_all.Tie as tie

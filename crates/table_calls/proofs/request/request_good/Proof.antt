@@ -20,7 +20,7 @@ returns-2 c =
     rw (sym (t .before .node-good .ensures) ∙ t .if1 .taken, lt-leb (getD r 2 0) 2 (omega arith))
 
 returns-3 : tie.Need-returns-3
-returns-3 c = rw (sym (c .before .node-good .ensures) ∙ c .if1 .left)
+returns-3 c = rw (sym (c .before .node-good .ensures) ∙ c .if1 .left, c .if1 .left)
 
 pub request-good-spec : {M : Type 1} → statement M
 request-good-spec =

@@ -38,7 +38,7 @@ loop-again c =
     let l = c .before .before .before .before .before .before .before .before in
     let m = start l .args .t2 in
     let s = rw (next-entry m (l .loop .i) (omega arith)) at (l .loop .inv .1) in
-    (omega arith, stores-more (entryWords (getD (m .«address_space») (l .loop .i) noEntry)) _ (rw (p .before .usage-number .ensures) at (p .put-four .ensures)) (omega arith) s)
+    (omega arith, stores-more (entryWords (getD (m .«address_space») (l .loop .i) noEntry)) _ (rw (p .before .usage-word .ensures) at (p .put-four .ensures)) (omega arith) s)
 
 same-length : tie.Need-same-length Inv-loop μ-loop
 same-length c = simp length-sets at (stores-length (c .before .loop .inv .1))

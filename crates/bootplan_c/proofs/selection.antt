@@ -1,3 +1,0 @@
--- The proofs of `selection`.
-pub mod Laws
-pub mod Told

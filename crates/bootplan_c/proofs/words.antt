@@ -1,2 +1,0 @@
--- The proofs of `words`.
-pub mod Laws

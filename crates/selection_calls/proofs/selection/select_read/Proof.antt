@@ -1,0 +1,136 @@
+-- `selection::select_read` meets its contract: rows 4 and 5 by what was seen of both lists, and then selection from as much of them
+-- as there is room for, which comes to the same.
+use mathlib.Core.Path.{_≡_, sym, ap, _∙_}
+use mathlib.Core.List.{List}
+use native.Mathlib.Omega.{arith}
+use borrow.Author.Needs.{needs}
+use denote.Ref.{now}
+use lib.ListN.{take}
+use lib.Seq.{length-take-le}
+use Rattle.refusal.specs.Laws.Answer.{rows-refused, rows-none}
+use Rattle.memory_range.specs.declared.range.MemoryRange.{MemoryRange}
+use Rattle.memory_range.specs.List.{rangesOf}
+use Rattle.host_params.specs.declared.MemoryEntry.{MemoryEntry}
+use Rattle.host_map.specs.Map.{mapOf}
+use Rattle.vtl2_ram.specs.Choice.{Choice}
+use Rattle.vtl2_ram.specs.Ram.{ramAs}
+use Rattle.vtl2_ram.specs.Select.{choice}
+use Rattle.plan_input.specs.Room.{mapRoom, importRoom}
+use Rattle.table_words.specs.List.{rangesIn}
+use Rattle.selection_calls.specs.Selection.{wordEntries, choiceIn}
+use Rattle.selection_calls.proofs.selection.Lent.{map-lent, imports-lent}
+use Rattle.selection_calls.proofs.selection.Told.{told-refused, choice-again, count-again, cut-few, words-refused, words-passed}
+use Rattle.selection_calls.proofs.selection.select_read.Statement.{statement}
+use Rattle.selection_calls.proofs.selection.select_read.Tie as tie
+
+-- what is read
+module _ (k : tie.After-check-rows) where
+  abbrev ranges : tie.After-read-ranges
+  ranges = k .before .before .before .before
+
+  abbrev listed : tie.After-read-map
+  listed = ranges .before .before .before .before .before .before .before
+
+  abbrev entry : tie.Start
+  entry = listed .before .before .before .before .before .before .before .before
+
+  abbrev map : List MemoryEntry
+  map = wordEntries (now (entry .args .map))
+
+  abbrev imports : List MemoryRange
+  imports = rangesIn (now (entry .args .imports))
+
+returns : tie.Need-returns
+returns c =
+    let k = c .before .before .before in
+    let a = entry k .args in
+    let e = rows-refused _ (sym (k .check-rows .ensures) ∙ c .before .number .given .1) in
+    told-refused
+    (words-refused (a .mode) (a .isolation) (a .ram-size) (a .file) (map k) (imports k) (listed k .read-map .ensures .1 .0)
+    (k .before .check-imports .ensures) e)
+
+-- what is lent of the map and of the imported ranges
+module _ (n : tie.After-at-most2) where
+  abbrev rows : tie.After-check-rows
+  rows = n .before .before .before .before
+
+  map-held : let l = listed rows .read-map .last .1 in let k = n .before .at-most .result in
+      mapOf (take k (l .0)) (take k (l .1 .0)) (take k (l .1 .1 .0)) (take k (l .1 .1 .1 .0)) ≡ take mapRoom (map rows)
+  map-held =
+      let e = listed rows .read-map .ensures in
+      let l = e .1 .1 in
+      map-lent (map rows) (l .0) (l .1 .0) (l .1 .1 .0) (l .1 .1 .1) (e .0) (n .before .at-most .ensures)
+
+  imports-held : let l = ranges rows .read-ranges .last .1 in let k = n .at-most2 .result in
+      rangesOf (take k (l .0)) (take k (l .1 .0)) ≡ take importRoom (imports rows)
+  imports-held =
+      let e = ranges rows .read-ranges .ensures in imports-lent (now (entry rows .args .imports)) (e .0) (e .1) (n .at-most2 .ensures)
+
+-- what selection comes to from that
+module _ (f : tie.After-select-from-lists) where
+  abbrev lent : tie.After-at-most2
+  lent = f .before .before .before .before .before .before .before
+
+  abbrev cut : Choice
+  cut =
+      let a = entry (rows lent) .args in
+      choice (a .mode) (a .isolation) (a .ram-size) (a .file) (take mapRoom (map (rows lent))) (take importRoom (imports (rows lent)))
+
+  held : f .select-from-lists .result ≡ ramAs cut
+  held = rw (map-held lent, imports-held lent) at (f .select-from-lists .ensures)
+
+store-ram-requires : tie.Need-store-ram-requires
+store-ram-requires c κs =
+    let f = c .before .before in
+    let a = entry (rows (lent f)) .args in
+    let k = rows (lent f) in
+    let few = cut-few (a .mode) (a .isolation) (a .ram-size) (a .file) (map k) (imports k) in
+    (rw (held f) (omega (arith, count-again (cut f), few)), entry k .pre .1)
+
+returns-2 : tie.Need-returns-2
+returns-2 c =
+    let w = c .before .before in
+    let f = w .before .before .before in
+    let k = rows (lent f) in
+    let a = entry k .args in
+    let few = cut-few (a .mode) (a .isolation) (a .ram-size) (a .file) (map k) (imports k) in
+    let passed = rows-none _ (sym (k .check-rows .ensures) ∙ lent f .before .before .enum-told .given .1) in
+    let same = words-passed (a .mode) (a .isolation) (a .ram-size) (a .file) (map k) (imports k) (listed k .read-map .ensures .1 .0)
+    (k .before .check-imports .ensures) passed in
+    rw (ap choiceIn (held f) ∙ choice-again (cut f) few ∙ same) at (w .store-ram .ensures)
+
+pub select-read-spec : {M : Type 1} → statement M
+select-read-spec =
+    tie.close
+    (tie.spec
+    (λ c. search needs)
+    (λ c. search needs)
+    (λ c. search needs)
+    (λ c. search needs)
+    (λ c κs. search needs)
+    (λ c. search needs)
+    (λ c. search needs)
+    (λ c κs. search needs)
+    (λ c κs. search needs)
+    (λ c κs. search needs)
+    (λ c. search needs)
+    (λ c. search needs)
+    (λ c κs. search needs)
+    (λ c κs. search needs)
+    (λ c. search needs)
+    (λ c. sym (length-take-le _ _ (search needs)))
+    (λ c. search needs)
+    (λ c. sym (length-take-le _ _ (search needs)))
+    (λ c. search needs)
+    (λ c. sym (length-take-le _ _ (search needs)))
+    (λ c. search needs)
+    (λ c. sym (length-take-le _ _ (search needs)))
+    (λ c. search needs)
+    (λ c. sym (length-take-le _ _ (search needs)))
+    (λ c. search needs)
+    (λ c. sym (length-take-le _ _ (search needs)))
+    (λ c κs. search needs)
+    store-ram-requires
+    returns
+    (λ c. search needs)
+    returns-2)
