@@ -1,9 +1,16 @@
--- A field and a word compared (docs/SPEC.md, section 10).
+-- Words, and a field compared with one (docs/SPEC.md, section 10).
 use Prim.Native.Nat.{ℕ}
+use Prim.Native.Char.{code}
+use Prim.Native.String.{String, [] as []ˢ, _∷_ as _∷ˢ_}
 use mathlib.Core.Bool.{Bool, true, false, cond, _&&_}
 use mathlib.Core.List.{List, [], _∷_}
 use mathlib.Core.Option.{Option, none, some}
 use lib.Dec.{eqb}
+
+-- the bytes of a word that is written in ASCII: the code of each character
+abbrev pub ascii : String → List ℕ
+ascii []ˢ = []
+ascii (c ∷ˢ s) = code c ∷ ascii s
 
 -- whether two lists have the same bytes in the same order
 abbrev pub sameBytes : List ℕ → List ℕ → Bool
@@ -18,6 +25,6 @@ after none next = none
 after (some x) next = next x
 
 -- what a field stands for, by a table of words and their values; none, where it is none of the words
-abbrev pub lookup : {A : Type 0} → List (List ℕ × A) → List ℕ → Option A
+abbrev pub lookup : {A : Type 0} → List (String × A) → List ℕ → Option A
 lookup [] field = none
-lookup (row ∷ rows) field = cond (sameBytes field (row .0)) (some (row .1)) (lookup rows field)
+lookup (row ∷ rows) field = cond (sameBytes field (ascii (row .0))) (some (row .1)) (lookup rows field)

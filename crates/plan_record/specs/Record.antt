@@ -1,6 +1,6 @@
--- The record of a line (docs/SPEC.md, section 13). A word is written as its bytes; the code has it as a byte string, and the
--- proofs hold the two together.
+-- The record of a line (docs/SPEC.md, section 13).
 use Prim.Native.Nat.{ℕ}
+use Prim.Native.String.{String}
 use mathlib.Core.Bool.{cond}
 use mathlib.Core.List.{List, [], _∷_}
 use mathlib.Core.Option.{Option, none, some}
@@ -8,7 +8,7 @@ use lib.Dec.{eqb}
 use lib.ListN.{length, getD}
 use Rattle.memory_range.specs.declared.range.MemoryRange.{MemoryRange}
 use Rattle.plan_fields.specs.Cut.{tab, splitOn}
-use Rattle.plan_fields.specs.Word.{sameBytes, after, lookup}
+use Rattle.plan_fields.specs.Word.{ascii, sameBytes, after}
 use Rattle.plan_fields.specs.Number.{numberOf}
 use Rattle.plan_record.specs.Value.{modeOf, isolationOf, entryTypeOf, policyOf, kindOf, splitOf, optionalOf, nodeOf, optionalNodeOf, configOf}
 use Rattle.plan_record.specs.declared.record.Line.{Line}
@@ -17,35 +17,6 @@ use Rattle.plan_record.specs.declared.record.RangeFields.{RangeFields}
 use Rattle.plan_record.specs.declared.record.RangeFields.the-variants as range-fields
 use Rattle.plan_record.specs.declared.record.Record.{Record}
 use Rattle.plan_record.specs.declared.record.Record.the-variants.{Shape, File, Mem, Import, Used, State, Config, Keep, Side, Tables, Log, Gpool, Pool, Get}
-
--- the words that have fields of their own: `shape`, `mem`, `pool`, `get`
-abbrev pub shapeWord : List ℕ
-shapeWord = 115 ∷ 104 ∷ 97 ∷ 112 ∷ 101 ∷ []
-
-abbrev pub memWord : List ℕ
-memWord = 109 ∷ 101 ∷ 109 ∷ []
-
-abbrev pub poolWord : List ℕ
-poolWord = 112 ∷ 111 ∷ 111 ∷ 108 ∷ []
-
-abbrev pub getWord : List ℕ
-getWord = 103 ∷ 101 ∷ 116 ∷ []
-
--- the words whose fields are a start and an end: `file`, `import`, `used`, `state`, `config`, `keep`, `side`,
--- `tables`, `log`, `gpool`
-abbrev pub rangeWords : List (List ℕ × (MemoryRange → Record))
-rangeWords =
-    ((102 ∷ 105 ∷ 108 ∷ 101 ∷ []), λ r. File r)
-    ∷ ((105 ∷ 109 ∷ 112 ∷ 111 ∷ 114 ∷ 116 ∷ []), λ r. Import r)
-    ∷ ((117 ∷ 115 ∷ 101 ∷ 100 ∷ []), λ r. Used r)
-    ∷ ((115 ∷ 116 ∷ 97 ∷ 116 ∷ 101 ∷ []), λ r. State r)
-    ∷ ((99 ∷ 111 ∷ 110 ∷ 102 ∷ 105 ∷ 103 ∷ []), λ r. Config r)
-    ∷ ((107 ∷ 101 ∷ 101 ∷ 112 ∷ []), λ r. Keep r)
-    ∷ ((115 ∷ 105 ∷ 100 ∷ 101 ∷ []), λ r. Side r)
-    ∷ ((116 ∷ 97 ∷ 98 ∷ 108 ∷ 101 ∷ 115 ∷ []), λ r. Tables r)
-    ∷ ((108 ∷ 111 ∷ 103 ∷ []), λ r. Log r)
-    ∷ ((103 ∷ 112 ∷ 111 ∷ 111 ∷ 108 ∷ []), λ r. Gpool r)
-    ∷ []
 
 -- a value made of n fields; none where there are more or fewer
 abbrev pub having : {A : Type 0} → ℕ → List (List ℕ) → Option A → Option A
@@ -98,18 +69,61 @@ rangeOf fs = having 2 fs (
     after (numberOf (field 1 fs)) (λ end.
     some (record { start = start; end = end }))))
 
--- the record that a word makes of a range
-abbrev pub rangeRecord : List ℕ → MemoryRange → Option Record
-rangeRecord w r = after (lookup rangeWords w) (λ make. some (make r))
+-- how often a word may stand in a text: once; at most once (`?`); any number of times (`*`)
+pub data Occurs : Type 0 where
+  one : Occurs
+  optional : Occurs
+  many : Occurs
 
--- the record that a word makes of the fields behind it
+-- a word, how often it may stand, and what it makes of the fields behind it: of its own fields, or of a start and an end
+pub data Form : Type 0 where
+  own : String → Occurs → (List (List ℕ) → Option Record) → Form
+  range : String → Occurs → (MemoryRange → Record) → Form
+
+-- the fourteen words in their order (document 01, "The plan text")
+abbrev pub forms : List Form
+forms =
+    own "shape" one shapeOf
+    ∷ range "file" one File
+    ∷ own "mem" many memOf
+    ∷ range "import" many Import
+    ∷ range "used" one Used
+    ∷ range "state" one State
+    ∷ range "config" many Config
+    ∷ range "keep" optional Keep
+    ∷ range "side" optional Side
+    ∷ range "tables" optional Tables
+    ∷ range "log" optional Log
+    ∷ range "gpool" many Gpool
+    ∷ own "pool" one poolOf
+    ∷ own "get" many getOf
+    ∷ []
+
+abbrev pub wordIn : Form → List ℕ
+wordIn (own word times make) = ascii word
+wordIn (range word times make) = ascii word
+
+abbrev pub timesOf : Form → Occurs
+timesOf (own word times make) = times
+timesOf (range word times make) = times
+
+abbrev pub makes : Form → List (List ℕ) → Option Record
+makes (own word times make) fields = make fields
+makes (range word times make) fields = after (rangeOf fields) (λ r. some (make r))
+
+-- the record that a word makes of the fields behind it, by the form whose word it is
+abbrev pub recordBy : List Form → List ℕ → List (List ℕ) → Option Record
+recordBy [] w fields = none
+recordBy (form ∷ rest) w fields = cond (sameBytes w (wordIn form)) (makes form fields) (recordBy rest w fields)
+
 abbrev pub recordOf : List ℕ → List (List ℕ) → Option Record
-recordOf w fields =
-    cond (sameBytes w shapeWord) (shapeOf fields)
-    (cond (sameBytes w memWord) (memOf fields)
-    (cond (sameBytes w poolWord) (poolOf fields)
-    (cond (sameBytes w getWord) (getOf fields)
-    (after (rangeOf fields) (λ r. rangeRecord w r)))))
+recordOf w fields = recordBy forms w fields
+
+-- the record that a word makes of a range, where its fields are a start and an end
+abbrev pub rangeBy : List Form → List ℕ → MemoryRange → Option Record
+rangeBy [] w r = none
+rangeBy (own word times make ∷ rest) w r = rangeBy rest w r
+rangeBy (range word times make ∷ rest) w r = cond (sameBytes w (ascii word)) (some (make r)) (rangeBy rest w r)
 
 -- the record of a line's fields: the first is its word
 abbrev pub fieldsRecord : List (List ℕ) → Option Record

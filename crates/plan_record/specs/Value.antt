@@ -1,6 +1,6 @@
--- What a single field stands for (docs/SPEC.md, section 12). A word is written as its bytes; the code has it as a byte string, and
--- the proofs hold the two together.
+-- What a single field stands for (docs/SPEC.md, section 12).
 use Prim.Native.Nat.{ℕ}
+use Prim.Native.String.{String}
 use mathlib.Core.Bool.{Bool, true, false, cond}
 use mathlib.Core.List.{List, [], _∷_}
 use mathlib.Core.Option.{Option, none, some}
@@ -23,8 +23,7 @@ use Rattle.host_params.specs.declared.OptionU64.{OptionU64}
 use Rattle.host_params.specs.declared.OptionU64.the-variants as u64
 use Rattle.host_params.specs.declared.OptionU32.{OptionU32}
 use Rattle.host_params.specs.declared.OptionU32.the-variants as u32
-use Rattle.plan_fields.specs.Cut.{tab}
-use Rattle.plan_fields.specs.Word.{sameBytes, after, lookup}
+use Rattle.plan_fields.specs.Word.{ascii, sameBytes, after, lookup}
 use Rattle.plan_fields.specs.Number.{numberOf}
 use Rattle.plan_record.specs.declared.value.ModeField.{ModeField}
 use Rattle.plan_record.specs.declared.value.ModeField.the-variants as mode-field
@@ -49,43 +48,55 @@ use Rattle.plan_record.specs.declared.value.OptionalNodeField.the-varian
 use Rattle.plan_record.specs.declared.value.ConfigField.{ConfigField}
 use Rattle.plan_record.specs.declared.value.ConfigField.the-variants as config-field
 
--- `h`, `b`
+-- the modes
+abbrev pub modes : List (String × MemoryAllocationMode)
+modes = ("h", Host) ∷ ("b", Vtl2) ∷ []
+
 abbrev pub modeOf : List ℕ → Option MemoryAllocationMode
-modeOf = lookup (((104 ∷ []), Host) ∷ ((98 ∷ []), Vtl2) ∷ [])
+modeOf = lookup modes
 
--- `none`, `vbs`, `snp`, `tdx`, `cca`
+-- the isolations
+abbrev pub isolations : List (String × IsolationType)
+isolations = ("none", isolation.None) ∷ ("vbs", Vbs) ∷ ("snp", Snp) ∷ ("tdx", Tdx) ∷ ("cca", Cca) ∷ []
+
 abbrev pub isolationOf : List ℕ → Option IsolationType
-isolationOf = lookup (
-    ((110 ∷ 111 ∷ 110 ∷ 101 ∷ []), isolation.None)
-    ∷ ((118 ∷ 98 ∷ 115 ∷ []), Vbs)
-    ∷ ((115 ∷ 110 ∷ 112 ∷ []), Snp)
-    ∷ ((116 ∷ 100 ∷ 120 ∷ []), Tdx)
-    ∷ ((99 ∷ 99 ∷ 97 ∷ []), Cca)
-    ∷ [])
+isolationOf = lookup isolations
 
--- `p`, `o`
+-- the types of map entries
+abbrev pub entryTypes : List (String × MemoryMapEntryType)
+entryTypes = ("p", Vtl2Protectable) ∷ ("o", Memory) ∷ []
+
 abbrev pub entryTypeOf : List ℕ → Option MemoryMapEntryType
-entryTypeOf = lookup (((112 ∷ []), Vtl2Protectable) ∷ ((111 ∷ []), Memory) ∷ [])
+entryTypeOf = lookup entryTypes
 
--- `l`, `h`
+-- the policies
+abbrev pub policies : List (String × AllocationPolicy)
+policies = ("l", LowMemory) ∷ ("h", HighMemory) ∷ []
+
 abbrev pub policyOf : List ℕ → Option AllocationPolicy
-policyOf = lookup (((108 ∷ []), LowMemory) ∷ ((104 ∷ []), HighMemory) ∷ [])
+policyOf = lookup policies
 
--- `p`, `s`, `t`
+-- the kinds of requests
+abbrev pub kinds : List (String × AllocationType)
+kinds = ("p", GpaPool) ∷ ("s", SidecarNode) ∷ ("t", TdxPageTables) ∷ []
+
 abbrev pub kindOf : List ℕ → Option AllocationType
-kindOf = lookup (((112 ∷ []), GpaPool) ∷ ((115 ∷ []), SidecarNode) ∷ ((116 ∷ []), TdxPageTables) ∷ [])
+kindOf = lookup kinds
 
--- `y`, `n`
+-- whether a split is forced
+abbrev pub splits : List (String × Bool)
+splits = ("y", true) ∷ ("n", false) ∷ []
+
 abbrev pub splitOf : List ℕ → Option Bool
-splitOf = lookup (((121 ∷ []), true) ∷ ((110 ∷ []), false) ∷ [])
+splitOf = lookup splits
 
 -- `-`, which stands for a value that is absent
 abbrev pub absent : List ℕ
-absent = 45 ∷ []
+absent = ascii "-"
 
 -- the same with a tab behind it
 abbrev pub absentFirst : List ℕ
-absentFirst = 45 ∷ tab ∷ []
+absentFirst = ascii "-\t"
 
 -- a number, or absent
 abbrev pub optionalOf : List ℕ → Option OptionU64
@@ -108,22 +119,17 @@ abbrev pub optionalNodeFrom : OptionU64 → Option OptionU32
 optionalNodeFrom u64.None = some u32.None
 optionalNodeFrom (u64.Some n) = after (nodeFrom n) (λ node. some (u32.Some node))
 
--- `pages`
-abbrev pub pagesWord : List ℕ
-pagesWord = 112 ∷ 97 ∷ 103 ∷ 101 ∷ 115 ∷ []
+-- the kinds of pool that have no pages
+abbrev pub kindsWithoutPages : List (String × Vtl2GpaPoolConfig)
+kindsWithoutPages = ("off", Off) ∷ ("release", Heuristics Release) ∷ ("debug", Heuristics Debug) ∷ []
 
--- the kinds of pool that have no pages: `off`, `release`, `debug`
 abbrev pub kindWithoutPages : List ℕ → Option Vtl2GpaPoolConfig
-kindWithoutPages = lookup (
-    ((111 ∷ 102 ∷ 102 ∷ []), Off)
-    ∷ ((114 ∷ 101 ∷ 108 ∷ 101 ∷ 97 ∷ 115 ∷ 101 ∷ []), Heuristics Release)
-    ∷ ((100 ∷ 101 ∷ 98 ∷ 117 ∷ 103 ∷ []), Heuristics Debug)
-    ∷ [])
+kindWithoutPages = lookup kindsWithoutPages
 
 -- a kind of pool and its pages: a number where the kind is `pages`, else absent
 abbrev pub configOf : List ℕ → List ℕ → Option Vtl2GpaPoolConfig
 configOf kind pages =
-    cond (sameBytes kind pagesWord)
+    cond (sameBytes kind (ascii "pages"))
     (after (numberOf pages) (λ n. some (Pages n)))
     (cond (sameBytes pages absent) (kindWithoutPages kind) none)
 

@@ -1,7 +1,7 @@
 // A line as a record. Four records have fields of their own; the other ten have a start and an end.
 ghost use mathlib.Core.Path.{_≡_};
 ghost use Rattle.plan_fields.specs.Cut.{tab, splitOn};
-ghost use Rattle.plan_record.specs.Record.{recordIn, lineOf, recordOf, shapeOf, memOf, poolOf, getOf, rangeOf, rangeIn, rangeRecord};
+ghost use Rattle.plan_record.specs.Record.{recordIn, lineOf, recordOf, shapeOf, memOf, poolOf, getOf, rangeOf, rangeIn, forms, rangeBy};
 use super::value::ConfigField;
 use super::value::EntryTypeField;
 use super::value::IsolationField;
@@ -224,7 +224,7 @@ fn read_get(fields: &[u8]) -> Line
 
 // The record of a word whose fields are a start and an end.
 fn range_record(word: &[u8], range: MemoryRange) -> Line
-    ensures { λ r. ⌜ recordIn r ≡ rangeRecord (now (word .entry)) range ⌝ }
+    ensures { λ r. ⌜ recordIn r ≡ rangeBy forms (now (word .entry)) range ⌝ }
 {
     if same_bytes(word, b"file") {
         return Line::Record(Record::File(range));

@@ -1,8 +1,9 @@
 -- The order of the records of a text, and how often each may stand there (docs/SPEC.md, section 14).
 use Prim.Native.Nat.{ℕ, _+_}
 use mathlib.Core.Bool.{Bool, true, cond, _&&_}
-use mathlib.Core.List.{List, [], _∷_}
+use mathlib.Core.List.{List, [], _∷_, map}
 use lib.Dec.{eqb, leb}
+use Rattle.plan_record.specs.Record.{Occurs, one, optional, many, timesOf, forms}
 use Rattle.plan_record.specs.declared.record.Record.{Record}
 use Rattle.plan_record.specs.declared.record.Record.the-variants.{Shape, File, Mem, Import, Used, State, Config, Keep, Side, Tables, Log, Gpool, Pool, Get}
 
@@ -27,16 +28,9 @@ abbrev pub placesOf : List Record → List ℕ
 placesOf [] = []
 placesOf (r ∷ rs) = placeOf r ∷ placesOf rs
 
--- how often a word may stand in a text: once; at most once (`?`); any number of times (`*`)
-pub data Occurs : Type 0 where
-  one : Occurs
-  optional : Occurs
-  many : Occurs
-
--- of each of the fourteen words, in their order: shape, file, mem*, import*, used, state, config*, keep?, side?, tables?,
--- log?, gpool*, pool, get*
+-- how often each of the fourteen words may stand, in their order
 abbrev pub occurs : List Occurs
-occurs = one ∷ one ∷ many ∷ many ∷ one ∷ one ∷ many ∷ optional ∷ optional ∷ optional ∷ optional ∷ many ∷ one ∷ many ∷ []
+occurs = map timesOf forms
 
 -- whether a word that so occurs may stand n times
 abbrev pub allowed : Occurs → ℕ → Bool

@@ -1,13 +1,13 @@
 -- Laws of cut bytes: what the first part and the later ones are, that the parts with the separator between
--- them are the bytes again, and that no part holds the separator.
+-- them are the bytes again, that no part holds the separator, and that parts so joined are cut apart again.
 use Prim.Native.Nat.{ℕ, _+_, _≤_, _<_}
-use mathlib.Core.Path.{_≡_, refl, ap}
+use mathlib.Core.Path.{_≡_, refl, ap, _∙_}
 use mathlib.Core.Bool.{Bool, true, false}
 use mathlib.Core.List.{List, [], _∷_, _++_}
 use native.Mathlib.Omega.{arith}
 use native.Mathlib.Numerals.{add-one}
 use native.Mathlib.Decide.{decLt}
-use borrow.Author.Tests.{eqb-true}
+use borrow.Author.Tests.{eqb-true, eq-eqb}
 use lib.Dec.{eqb}
 use lib.ListN.{length, drop}
 use Rattle.plan_fields.specs.Cut.{onFirst, splitOn, firstPart, joinWith}
@@ -43,6 +43,18 @@ split-none c (b ∷ bs) h = go (eqb b c) refl (split-none c bs)
     go : (t : Bool) → eqb b c ≡ t → (length bs ≤ length (firstPart c bs) → splitOn c bs ≡ bs ∷ []) → splitOn c (b ∷ bs) ≡ (b ∷ bs) ∷ []
     go true e i = let k = rw e at h in absurd (omega arith)
     go false e i = let k = rw e at h in rw (e, i (omega arith))
+
+-- where there is one, it stands right behind the first part
+pub first-ends : (c : ℕ) (bs : List ℕ) → length (firstPart c bs) < length bs
+    → bs ≡ firstPart c bs ++ c ∷ drop (length (firstPart c bs) + 1) bs
+first-ends c [] h = absurd (omega arith)
+first-ends c (b ∷ bs) h = go (eqb b c) refl (first-ends c bs)
+  where
+    go : (t : Bool) → eqb b c ≡ t
+        → (length (firstPart c bs) < length bs → bs ≡ firstPart c bs ++ c ∷ drop (length (firstPart c bs) + 1) bs)
+        → b ∷ bs ≡ firstPart c (b ∷ bs) ++ c ∷ drop (length (firstPart c (b ∷ bs)) + 1) (b ∷ bs)
+    go true e i = rw (e, eqb-true b c e)
+    go false e i = let k = rw e at h in let behind = rw add-one at (i (omega arith)) in rw (e, add-one _) (ap (λ (l : List ℕ). b ∷ l) behind)
 
 -- behind the first separator, the bytes left are cut in the same way
 pub split-first : (c : ℕ) (bs : List ℕ) → length (firstPart c bs) < length bs
@@ -119,3 +131,18 @@ first-clean c (b ∷ bs) = go (eqb b c) refl (first-clean c bs)
     go : (t : Bool) → eqb b c ≡ t → Without c (firstPart c bs) → Without c (firstPart c (b ∷ bs))
     go true e i = rw e tt
     go false e i = rw e (e, i)
+
+-- bytes without the separator are one part
+split-without : (c : ℕ) (p : List ℕ) → Without c p → splitOn c p ≡ p ∷ []
+split-without c [] h = refl
+split-without c (b ∷ p) h = rw (h .0, split-without c p (h .1))
+
+-- and in front of a separator they are the first
+pub split-append : (c : ℕ) (p rest : List ℕ) → Without c p → splitOn c (p ++ c ∷ rest) ≡ p ∷ splitOn c rest
+split-append c [] rest h = rw (eq-eqb c c refl)
+split-append c (b ∷ p) rest h = rw (h .0, split-append c p rest (h .1))
+
+-- parts that are joined are cut again into the same parts
+pub split-join : (c : ℕ) (p : List ℕ) (ps : List (List ℕ)) → AllWithout c (p ∷ ps) → splitOn c (joinWith c (p ∷ ps)) ≡ p ∷ ps
+split-join c p [] h = split-without c p (h .0)
+split-join c p (q ∷ ps) h = split-append c p (joinWith c (q ∷ ps)) (h .0) ∙ ap (λ (l : List (List ℕ)). p ∷ l) (split-join c q ps (h .1))

@@ -8,6 +8,7 @@ use native.Mathlib.Nat.{zero-add}
 use lib.ListN.{length, length-append, length-drop}
 use Rattle.memory_range.specs.declared.range.MemoryRange.{MemoryRange}
 use Rattle.plan_fields.specs.Cut.{tab, newline}
+use Rattle.plan_fields.specs.Word.{ascii}
 use Rattle.host_params.specs.declared.MemoryVtlType.{MemoryVtlType}
 use Rattle.host_params.specs.declared.MemoryVtlType.the-variants.{Ram, Config, SidecarImage, SidecarNode, Reserved, GpaPool, TdxPageTables, BootshimLogBuffer, PersistedStateHeader, PersistedStatePayload}
 use Rattle.plan_output.specs.Number.{hexOf, decimalOf}
@@ -40,7 +41,7 @@ pub range-fields : (word last : List ℕ) (r : MemoryRange)
 unfolding rangeLine
 range-fields word last r = simp append-assoc
 
-pub no-fields : (k : ℕ) → noLine k ≡ ((110 ∷ 111 ∷ []) ++ tab ∷ []) ++ (decimalOf k ++ newline ∷ [])
+pub no-fields : (k : ℕ) → noLine k ≡ (ascii "no" ++ tab ∷ []) ++ (decimalOf k ++ newline ∷ [])
 unfolding noLine
 no-fields k = simp append-assoc
 

@@ -42,7 +42,7 @@ last of next [] = none
 last of next (p ∷ []) = after (of p) next
 last of next (p ∷ q ∷ ps) = none
 
-after-none : {A B : Type 0} (o : Option A) → after {B = B} o (λ x. none) ≡ none
+pub after-none : {A B : Type 0} (o : Option A) → after {B = B} o (λ x. none) ≡ none
 after-none none = refl
 after-none (some x) = refl
 

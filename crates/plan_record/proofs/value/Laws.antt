@@ -1,7 +1,6 @@
 -- Readers of values and of records are chains of tests and matches, and so are their definitions: chains of `cond` and `after`.
 -- A law takes the definition one step on by what the code learnt there: `r` is the answer of a call, `t` or `o`
--- what its contract says of it. `search words` finds the steps of a whole chain,
--- and `search rows` those of a table that a record is looked up in.
+-- what its contract says of it. `search words` finds the steps of a whole chain.
 use mathlib.Core.Path.{_≡_, refl, _∙_}
 use mathlib.Core.Bool.{Bool, true, false, cond}
 use mathlib.Core.Option.{Option, none, some}
@@ -14,15 +13,6 @@ hit r t x y z e h p = rw (← e, h) p
 
 pub miss : {A : Type 0} (r t : Bool) (x y z : A) → r ≡ t → r ≡ false → x ≡ z → x ≡ cond t y z
 miss r t x y z e h p = rw (← e, h) p
-
--- the same of a row of a table
-pub take : {A B : Type 0} (r t : Bool) (v : A) (rows : Option A) (next : A → Option B) (x : Option B)
-    → r ≡ t → r ≡ true → x ≡ next v → x ≡ after (cond t (some v) rows) next
-take r t v rows next x e h p = rw (← e, h) p
-
-pub pass : {A B : Type 0} (r t : Bool) (v : A) (rows : Option A) (next : A → Option B) (x : Option B)
-    → r ≡ t → r ≡ false → x ≡ after rows next → x ≡ after (cond t (some v) rows) next
-pass r t v rows next x e h p = rw (← e, h) p
 
 -- `after` by another name: the search computes it, and does not take it for another answer's step
 abbrev pub on : {A B : Type 0} → Option A → (A → Option B) → Option B
@@ -37,7 +27,5 @@ on-after (some x) next = refl
 pub answered : {F A : Type 0} (told : F → Option A) (B : Type 0) (r s : F) (o : Option A) (next : A → Option B) (x : Option B)
     → told r ≡ o → r ≡ s → x ≡ on (told s) next → x ≡ after o next
 answered told B r s o next x e h p = rw (← e, h) (p ∙ on-after (told s) next)
-
-pub ruleset rows = (take, pass, not-true, not-false)
 
 pub ruleset words = (hit, miss, not-true, not-false, le-leb, lt-leb)

@@ -14,7 +14,8 @@ use lib.Seq.{drop-drop}
 use borrow.Author.Tests.{le-leb, lt-leb, leb-true, eq-eqb, ne-eqb, eqb-true}
 use Rattle.plan_record.specs.declared.record.Record.{Record}
 use Rattle.plan_record.specs.declared.record.Record.the-variants.{Shape, File, Mem, Import, Used, State, Config, Keep, Side, Tables, Log, Gpool, Pool, Get}
-use Rattle.plan_text.specs.Order.{placeOf, placesOf, Occurs, one, optional, many, occurs, allowed, timesIn, timesAllowed, placesAscend, inOrder}
+use Rattle.plan_record.specs.Record.{Occurs, one, optional, many}
+use Rattle.plan_text.specs.Order.{placeOf, placesOf, occurs, allowed, timesIn, timesAllowed, placesAscend, inOrder}
 use Rattle.plan_text.specs.OrderStep.{broken, orderAfter, complete, ordered}
 
 -- there are fourteen words

@@ -15,7 +15,8 @@ use Rattle.plan_record.specs.declared.record.Pool as pool
 use Rattle.plan_record.specs.declared.record.Shape as shape
 use Rattle.plan_record.specs.declared.record.Record.{Record}
 use Rattle.plan_record.specs.declared.record.Record.the-variants.{Shape, File, Mem, Import, Used, State, Config, Keep, Side, Tables, Log, Gpool, Pool, Get}
-use Rattle.plan_text.specs.Order.{placeOf, placesOf, Occurs, many, occurs, allowed, timesIn, timesAllowed, placesAscend, inOrder}
+use Rattle.plan_record.specs.Record.{Occurs, many}
+use Rattle.plan_text.specs.Order.{placeOf, placesOf, occurs, allowed, timesIn, timesAllowed, placesAscend, inOrder}
 use Rattle.plan_text.specs.Plan.{Held, heldBy, shapeHeld, rangeHeld, entryHeld, poolHeld, getHeld, valuesAt}
 use Rattle.plan_text.specs.Plan.{shapes, files, mems, imports, useds, states, configs, keeps, sides, tables, logs, gpools, pools, gets}
 

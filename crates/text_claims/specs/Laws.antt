@@ -1,0 +1,4 @@
+pub mod Field
+pub mod Plain
+pub mod Record
+pub mod Text

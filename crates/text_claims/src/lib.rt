@@ -1,0 +1,1 @@
+// No code: what the texts are that the reader accepts.
