@@ -1,3 +1,4 @@
 pub mod Order
 pub mod Text
 pub mod Plan
+pub mod Spelling

@@ -4,6 +4,7 @@ ghost use Rattle.plan_text.specs.Text.{textCheck, checkFrom, recordsFrom
 ghost use Rattle.plan_text.specs.OrderStep.{orderEnd};
 use super::order::COMPLETE;
 use super::order::order_after;
+use memory_range::at_most;
 use plan_fields::NEWLINE;
 use plan_fields::first_part;
 use plan_record::Line;
@@ -12,6 +13,10 @@ use plan_record::read_line;
 
 // The most bytes that a text may have.
 pub const TEXT_SIZE: usize = 65536;
+
+// The bytes of the longest line with its newline: `pool`, `pages`, three numbers of 16 digits, `y` or
+// `n`, and the byte behind each of the six. Behind so many no newline is looked for.
+const LONGEST_LINE: usize = 4 + 1 + 5 + 1 + 16 + 1 + 16 + 1 + 16 + 1 + 1 + 1;
 
 // The next record and the place behind its line; that the line there breaks its form; or that there
 // is none.
@@ -33,9 +38,10 @@ pub fn next_record(text: &[u8], at: usize) -> RecordStep
     if text.len() <= at {
         return RecordStep::End;
     }
-    let line = first_part(&text[at..], NEWLINE);
+    let stop = at + at_most(text.len() - at, LONGEST_LINE);
+    let line = first_part(&text[at..stop], NEWLINE);
     let end = at + line.len();
-    if end == text.len() {
+    if end == stop {
         return RecordStep::Malformed;
     }
     match read_line(line) {

@@ -22,9 +22,10 @@ use Rattle.plan_output.specs.Number.{hexOf}
 use Rattle.plan_output.specs.Laws.Number.{read-hex}
 use Rattle.plan_text.specs.Plan.{gets}
 use Rattle.plan_text.specs.Text.{recordsOf}
-use Rattle.text_claims.specs.Spelling.{policyWord, kindWord, optionalFor, optionalNodeFor, fieldsFor, lineFor, textFor, SizedOption, Sized}
-use Rattle.text_claims.specs.Laws.Field.{policy-read, kind-read, optional-read, optional-node-read}
-use Rattle.text_claims.specs.Laws.Text.{text-spelled}
+use Rattle.plan_text.specs.Spelling.{textFor}
+use Rattle.plan_text.specs.Laws.Spelling.{text-spelled}
+use Rattle.line_claims.specs.Spelling.{policyWord, kindWord, optionalFor, optionalNodeFor, fieldsFor, lineFor, SizedOption, Sized}
+use Rattle.line_claims.specs.Laws.Field.{policy-read, kind-read, optional-read, optional-node-read}
 use Rattle.plan.specs.Planner.{shortestGet}
 
 -- a field that is read has a byte

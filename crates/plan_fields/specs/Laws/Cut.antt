@@ -1,6 +1,6 @@
 -- Laws of cut bytes: what the first part and the later ones are, that the parts with the separator between
 -- them are the bytes again, that no part holds the separator, and that parts so joined are cut apart again.
-use Prim.Native.Nat.{ℕ, _+_, _≤_, _<_}
+use Prim.Native.Nat.{ℕ, zero, suc, _+_, _≤_, _<_}
 use mathlib.Core.Path.{_≡_, refl, ap, _∙_}
 use mathlib.Core.Bool.{Bool, true, false}
 use mathlib.Core.List.{List, [], _∷_, _++_}
@@ -9,7 +9,7 @@ use native.Mathlib.Numerals.{add-one}
 use native.Mathlib.Decide.{decLt}
 use borrow.Author.Tests.{eqb-true, eq-eqb}
 use lib.Dec.{eqb}
-use lib.ListN.{length, drop}
+use lib.ListN.{length, take, drop}
 use Rattle.plan_fields.specs.Cut.{onFirst, splitOn, firstPart, joinWith}
 
 -- the first part is no longer than the bytes
@@ -20,6 +20,17 @@ first-length c (b ∷ bs) = go (eqb b c) refl (first-length c bs)
     go : (t : Bool) → eqb b c ≡ t → length (firstPart c bs) ≤ length bs → length (firstPart c (b ∷ bs)) ≤ length (b ∷ bs)
     go true e i = rw e (omega arith)
     go false e i = rw e (omega arith)
+
+-- the first part of the first n bytes is the first n bytes of the first part
+pub first-take : (c n : ℕ) (bs : List ℕ) → firstPart c (take n bs) ≡ take n (firstPart c bs)
+first-take c zero bs = refl
+first-take c (suc n) [] = refl
+first-take c (suc n) (b ∷ bs) = go (eqb b c) refl (first-take c n bs)
+  where
+    go : (t : Bool) → eqb b c ≡ t → firstPart c (take n bs) ≡ take n (firstPart c bs)
+        → firstPart c (b ∷ take n bs) ≡ take (suc n) (firstPart c (b ∷ bs))
+    go true e i = rw e
+    go false e i = rw e (ap (λ (l : List ℕ). b ∷ l) i)
 
 -- a byte in front of the first part makes no new one
 pub first-count : (b : ℕ) (ps : List (List ℕ)) → 1 ≤ length ps → length (onFirst b ps) ≡ length ps

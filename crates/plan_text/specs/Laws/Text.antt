@@ -77,7 +77,7 @@ accepted-size text a = go (ltb textSize (length text)) refl a
 abbrev pub infront : Option Record → Option (List Record) → Option (List Record)
 infront l rest = after l (λ r. after rest (λ rs. some (r ∷ rs)))
 
-parts-cons : (p : List ℕ) (ps : List (List ℕ)) → 1 ≤ length ps → partsRecords (p ∷ ps) ≡ infront (lineOf p) (partsRecords ps)
+pub parts-cons : (p : List ℕ) (ps : List (List ℕ)) → 1 ≤ length ps → partsRecords (p ∷ ps) ≡ infront (lineOf p) (partsRecords ps)
 parts-cons p [] h = absurd (omega arith)
 parts-cons p (q ∷ ps) h = refl
 

@@ -36,8 +36,8 @@ use Rattle.plan_record.specs.declared.record.Record.{Record}
 use Rattle.plan_record.specs.declared.record.Record.the-variants.{Shape, File, Mem, Import, Used, State, Config, Keep, Side, Tables, Log, Gpool, Pool, Get}
 use Rattle.plan_output.specs.Number.{hexOf}
 use Rattle.plan_output.specs.Laws.Number.{read-hex}
-use Rattle.text_claims.specs.Spelling.{modeWord, isolationWord, entryTypeWord, policyWord, kindWord, splitWord, configWord, pagesFor, optionalFor, optionalNodeFor, fieldsFor, lineFor}
-use Rattle.text_claims.specs.Spelling.{SizedOption, SizedNode, SizedConfig, SizedRange, Sized}
+use Rattle.line_claims.specs.Spelling.{modeWord, isolationWord, entryTypeWord, policyWord, kindWord, splitWord, configWord, pagesFor, optionalFor, optionalNodeFor, fieldsFor, lineFor}
+use Rattle.line_claims.specs.Spelling.{SizedOption, SizedNode, SizedConfig, SizedRange, Sized}
 
 record Plain (f : List ℕ) : Type 0 where
   no-tab : Without tab f

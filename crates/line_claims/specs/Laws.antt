@@ -1,4 +1,4 @@
 pub mod Field
 pub mod Plain
 pub mod Record
-pub mod Text
+pub mod Short

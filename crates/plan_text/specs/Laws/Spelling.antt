@@ -2,39 +2,26 @@
 use Prim.Native.Nat.{ℕ, _≤_}
 use mathlib.Core.Path.{_≡_, refl, ap, sym, _∙_}
 use mathlib.Core.Bool.{true}
-use native.Mathlib.Omega.{arith}
-use mathlib.Core.List.{List, [], _∷_, _++_}
-use mathlib.Core.Option.{Option, none, some, Option·some-injective, Option·none-ne-some}
-use lib.ListN.{length}
+use mathlib.Core.List.{List, [], _∷_, _++_, map}
+use mathlib.Core.Option.{some, Option·some-injective, Option·none-ne-some}
+use lib.ListN.{length, getD}
 use Rattle.memory_range.specs.Bytes.{All}
-use Rattle.plan_fields.specs.Cut.{tab, newline, splitOn, joinWith}
-use Rattle.plan_fields.specs.Laws.Cut.{split-some, join-split, AllWithout, split-append, split-join}
+use Rattle.plan_fields.specs.Cut.{newline, splitOn, joinWith}
+use Rattle.plan_fields.specs.Laws.Cut.{split-some, join-split, split-append}
 use Rattle.plan_fields.specs.Laws.Word.{after-some}
-use Rattle.plan_fields.specs.Word.{after}
 use Rattle.plan_record.specs.declared.record.Record.{Record}
-use Rattle.plan_record.specs.Record.{fieldsRecord, lineOf}
+use Rattle.plan_record.specs.declared.record.Record.the-variants.{Shape, File, Mem, Import, Used, State, Config, Keep, Side, Tables, Log, Gpool, Pool, Get}
+use Rattle.plan_record.specs.Record.{field, forms, wordIn, lineOf}
+use Rattle.line_claims.specs.Spelling.{fieldsFor, lineFor, Sized}
+use Rattle.line_claims.specs.Laws.Plain.{line-without}
+use Rattle.line_claims.specs.Laws.Record.{line-read, line-spelled}
 use Rattle.plan_text.specs.declared.text.TextCheck.the-variants.{Accepted}
-use Rattle.plan_text.specs.Order.{inOrder}
+use Rattle.plan_text.specs.Order.{placeOf, inOrder}
+use Rattle.plan_text.specs.Spelling.{textFor}
 use Rattle.plan_text.specs.Text.{lastPart, partsRecords, recordsOf, textSize, textCheck}
-use Rattle.plan_text.specs.Laws.Text.{accepts, accepted, accepted-size}
-use Rattle.text_claims.specs.Spelling.{fieldsFor, lineFor, textFor, Sized}
-use Rattle.text_claims.specs.Laws.Plain.{fields-apart, line-without}
-use Rattle.text_claims.specs.Laws.Record.{fields-read, line-spelled}
-
--- a record's line is read as the record
-split-fields : (fs : List (List ℕ)) (r : Record) → AllWithout tab fs → fieldsRecord fs ≡ some r → lineOf (joinWith tab fs) ≡ some r
-split-fields [] r a e = absurd (Option·none-ne-some r e)
-split-fields (w ∷ fs) r a e = ap fieldsRecord (split-join tab w fs a) ∙ e
-
-pub line-read : (r : Record) → Sized r → lineOf (lineFor r) ≡ some r
-line-read r h = split-fields (fieldsFor r) r (fields-apart r h) (fields-read r h)
+use Rattle.plan_text.specs.Laws.Text.{parts-cons, accepts, accepted, accepted-size}
 
 -- the text of records is read as the records
-parts-cons : (p : List ℕ) (ps : List (List ℕ)) → 1 ≤ length ps
-    → partsRecords (p ∷ ps) ≡ after (lineOf p) (λ r. after (partsRecords ps) (λ rs. some (r ∷ rs)))
-parts-cons p [] h = absurd (omega arith)
-parts-cons p (q ∷ ps) h = refl
-
 pub text-read : (rs : List Record) → All Sized rs → recordsOf (textFor rs) ≡ some rs
 text-read [] h = refl
 text-read (r ∷ rs) h =
@@ -77,3 +64,23 @@ spelled-accepted rs s o h = accepts (textFor rs) rs h (text-read rs s) o
 -- no two lists of records have one text
 pub one-text : (rs qs : List Record) → All Sized rs → All Sized qs → textFor rs ≡ textFor qs → rs ≡ qs
 one-text rs qs h k e = Option·some-injective rs qs (sym (text-read rs h) ∙ ap recordsOf e ∙ text-read qs k)
+
+-- the place of a record is that of its word among the fourteen
+abbrev pub wordAt : ℕ → List ℕ
+wordAt k = getD (map wordIn forms) k []
+
+pub placed-word : (r : Record) → field 0 (fieldsFor r) ≡ wordAt (placeOf r)
+placed-word (Shape x) = refl
+placed-word (File x) = refl
+placed-word (Mem x) = refl
+placed-word (Import x) = refl
+placed-word (Used x) = refl
+placed-word (State x) = refl
+placed-word (Config x) = refl
+placed-word (Keep x) = refl
+placed-word (Side x) = refl
+placed-word (Tables x) = refl
+placed-word (Log x) = refl
+placed-word (Gpool x) = refl
+placed-word (Pool x) = refl
+placed-word (Get x) = refl

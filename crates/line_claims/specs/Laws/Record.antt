@@ -2,16 +2,16 @@
 use Prim.Native.Nat.{ℕ, _^_, _<_}
 use mathlib.Core.Path.{_≡_, refl, ap, ap₂, sym, _∙_}
 use mathlib.Core.Bool.{Bool, true, false, cond}
-use mathlib.Core.List.{List, [], _∷_, map}
+use mathlib.Core.List.{List, [], _∷_}
 use mathlib.Core.Option.{Option, none, some, Option·some-injective, Option·none-ne-some}
 use native.Mathlib.Omega.{arith}
 use borrow.Author.Tests.{eqb-true}
 use lib.Dec.{eqb}
-use lib.ListN.{length, getD}
+use lib.ListN.{length}
 use Rattle.memory_range.specs.Bytes.{All}
 use Rattle.memory_range.specs.declared.range.MemoryRange.{MemoryRange}
 use Rattle.plan_fields.specs.Cut.{tab, splitOn, joinWith}
-use Rattle.plan_fields.specs.Laws.Cut.{join-split}
+use Rattle.plan_fields.specs.Laws.Cut.{join-split, split-join, AllWithout}
 use Rattle.plan_fields.specs.Laws.Word.{same-eq, after-some}
 use Rattle.plan_fields.specs.Number.{numberOf}
 use Rattle.plan_fields.specs.Word.{ascii, sameBytes, after}
@@ -19,19 +19,19 @@ use Rattle.plan_record.specs.declared.record.Record.{Record}
 use Rattle.plan_record.specs.declared.record.Record.the-variants.{Shape, File, Mem, Import, Used, State, Config, Keep, Side, Tables, Log, Gpool, Pool, Get}
 use Rattle.plan_record.specs.Record.{having, field, shapeOf, memOf, poolOf, getOf, rangeOf, Form, forms, wordIn, makes, recordBy, fieldsRecord, lineOf}
 use Rattle.plan_record.specs.Value.{modeOf, isolationOf, entryTypeOf, policyOf, kindOf, splitOf, optionalOf, nodeOf, optionalNodeOf, configOf}
-use Rattle.plan_text.specs.Order.{placeOf}
 use Rattle.plan_output.specs.Number.{hexOf}
 use Rattle.plan_output.specs.Laws.Number.{read-hex}
-use Rattle.text_claims.specs.Spelling.{fieldsFor, lineFor, Sized, SizedRange}
-use Rattle.text_claims.specs.Laws.Field.{mode-read, mode-spelled, isolation-read, isolation-spelled, entry-type-read, entry-type-spelled}
-use Rattle.text_claims.specs.Laws.Field.{policy-read, policy-spelled, kind-read, kind-spelled, split-read, split-spelled, number-spelled}
-use Rattle.text_claims.specs.Laws.Field.{optional-read, optional-spelled, node-read, node-spelled, optional-node-read, optional-node-spelled, config-read, config-spelled}
+use Rattle.line_claims.specs.Spelling.{fieldsFor, lineFor, Sized, SizedRange}
+use Rattle.line_claims.specs.Laws.Plain.{fields-apart}
+use Rattle.line_claims.specs.Laws.Field.{mode-read, mode-spelled, isolation-read, isolation-spelled, entry-type-read, entry-type-spelled}
+use Rattle.line_claims.specs.Laws.Field.{policy-read, policy-spelled, kind-read, kind-spelled, split-read, split-spelled, number-spelled}
+use Rattle.line_claims.specs.Laws.Field.{optional-read, optional-spelled, node-read, node-spelled, optional-node-read, optional-node-spelled, config-read, config-spelled}
 
 -- the fields of a record are read as the record
 range-read : (r : MemoryRange) → SizedRange r → rangeOf (hexOf (r .start) ∷ hexOf (r .end) ∷ []) ≡ some r
 range-read r h = rw (read-hex (r .start) (h .0), read-hex (r .end) (h .1))
 
-pub fields-read : (r : Record) → Sized r → fieldsRecord (fieldsFor r) ≡ some r
+fields-read : (r : Record) → Sized r → fieldsRecord (fieldsFor r) ≡ some r
 fields-read (Shape s) h = rw (mode-read (s .mode), isolation-read (s .isolation), optional-read (s .«memory_size») h)
 fields-read (File r) h = rw (range-read r h)
 fields-read (Mem e) h =
@@ -233,22 +233,10 @@ line-spelled line r e =
     let s = fields-spelled (splitOn tab line) r e in
     (sym (join-split tab line) ∙ ap (joinWith tab) (s .0), s .1)
 
--- the place of a record is that of its word among the fourteen
-abbrev pub wordAt : ℕ → List ℕ
-wordAt k = getD (map wordIn forms) k []
+-- and that line is read as the record
+split-fields : (fs : List (List ℕ)) (r : Record) → AllWithout tab fs → fieldsRecord fs ≡ some r → lineOf (joinWith tab fs) ≡ some r
+split-fields [] r a e = absurd (Option·none-ne-some r e)
+split-fields (w ∷ fs) r a e = ap fieldsRecord (split-join tab w fs a) ∙ e
 
-pub placed-word : (r : Record) → field 0 (fieldsFor r) ≡ wordAt (placeOf r)
-placed-word (Shape x) = refl
-placed-word (File x) = refl
-placed-word (Mem x) = refl
-placed-word (Import x) = refl
-placed-word (Used x) = refl
-placed-word (State x) = refl
-placed-word (Config x) = refl
-placed-word (Keep x) = refl
-placed-word (Side x) = refl
-placed-word (Tables x) = refl
-placed-word (Log x) = refl
-placed-word (Gpool x) = refl
-placed-word (Pool x) = refl
-placed-word (Get x) = refl
+pub line-read : (r : Record) → Sized r → lineOf (lineFor r) ≡ some r
+line-read r h = split-fields (fieldsFor r) r (fields-apart r h) (fields-read r h)

@@ -38,7 +38,7 @@ use Rattle.plan_fields.specs.Laws.Word.{same-eq, after-some}
 use Rattle.plan_record.specs.Value.{modes, modeOf, isolations, isolationOf, entryTypes, entryTypeOf, policies, policyOf, kinds, kindOf, splits, splitOf, absent, optionalOf, nodeFrom, nodeOf, optionalNodeOf, kindsWithoutPages, kindWithoutPages, configOf}
 use Rattle.plan_output.specs.Number.{hexOf}
 use Rattle.plan_output.specs.Laws.Number.{read-hex, hex-read}
-use Rattle.text_claims.specs.Spelling.{modeWord, isolationWord, entryTypeWord, policyWord, kindWord, splitWord, tableWord, configWord, pagesFor, optionalFor, optionalNodeFor, SizedOption, SizedNode, SizedConfig}
+use Rattle.line_claims.specs.Spelling.{modeWord, isolationWord, entryTypeWord, policyWord, kindWord, splitWord, tableWord, configWord, pagesFor, optionalFor, optionalNodeFor, SizedOption, SizedNode, SizedConfig}
 
 -- what holds of a field that is the word of a row and of the row's value, for every row, holds of what is looked up
 looked-up : {A : Type 0} (P : List ℕ → A → Type 0) (rows : List (String × A)) (f : List ℕ) (v : A) → lookup rows f ≡ some v

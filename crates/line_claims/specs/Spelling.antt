@@ -1,9 +1,8 @@
--- The text that spells a list of records (docs/SPEC.md, section 15): each value has one spelling, so each list of records has
--- one text.
+-- The line that spells a record (docs/SPEC.md, section 13): each value has one spelling, so each record has one line.
 use Prim.Native.Nat.{ℕ, _^_, _<_}
 use Prim.Native.String.{String}
 use mathlib.Core.Bool.{Bool, true, false}
-use mathlib.Core.List.{List, [], _∷_, _++_}
+use mathlib.Core.List.{List, [], _∷_}
 use Rattle.memory_range.specs.declared.range.MemoryRange.{MemoryRange}
 use Rattle.host_params.specs.declared.AllocationPolicy.{AllocationPolicy}
 use Rattle.host_params.specs.declared.AllocationPolicy.the-variants.{LowMemory, HighMemory}
@@ -24,13 +23,11 @@ use Rattle.host_params.specs.declared.Vtl2GpaPoolConfig.{Vtl2GpaPoolConfig}
 use Rattle.host_params.specs.declared.Vtl2GpaPoolConfig.the-variants.{Heuristics, Off, Pages}
 use Rattle.host_params.specs.declared.Vtl2GpaPoolLookupTable.{Vtl2GpaPoolLookupTable}
 use Rattle.host_params.specs.declared.Vtl2GpaPoolLookupTable.the-variants.{Release, Debug}
-use Rattle.plan_fields.specs.Cut.{tab, newline, joinWith}
+use Rattle.plan_fields.specs.Cut.{tab, joinWith}
 use Rattle.plan_fields.specs.Word.{ascii}
 use Rattle.plan_record.specs.declared.record.Record.{Record}
 use Rattle.plan_record.specs.declared.record.Record.the-variants.{Shape, File, Mem, Import, Used, State, Config, Keep, Side, Tables, Log, Gpool, Pool, Get}
 use Rattle.plan_output.specs.Number.{hexOf}
-use Rattle.plan_text.specs.Plan as plan
-use Rattle.plan_text.specs.Plan.{Held, heldBy}
 
 abbrev pub modeWord : MemoryAllocationMode → List ℕ
 modeWord Host = ascii "h"
@@ -108,11 +105,6 @@ fieldsFor (Get g) =
 abbrev pub lineFor : Record → List ℕ
 lineFor r = joinWith tab (fieldsFor r)
 
--- the lines of the records, each with its newline
-abbrev pub textFor : List Record → List ℕ
-textFor [] = []
-textFor (r ∷ rs) = lineFor r ++ newline ∷ textFor rs
-
 -- the numbers of a record have 64 bits, a node 32
 abbrev pub SizedOption : OptionU64 → Type 0
 SizedOption (u64.Some n) = n < 2 ^ 64
@@ -130,12 +122,18 @@ SizedConfig (Pages n) = n < 2 ^ 64
 abbrev pub SizedRange : MemoryRange → Type 0
 SizedRange r = (r .start < 2 ^ 64) × (r .end < 2 ^ 64)
 
-abbrev pub SizedHeld : Held → Type 0
-SizedHeld (plan.shape s) = SizedOption (s .«memory_size»)
-SizedHeld (plan.range r) = SizedRange r
-SizedHeld (plan.entry e) = SizedRange (e .range) × (e .vnode < 2 ^ 32)
-SizedHeld (plan.pool p) = SizedConfig (p .config) × SizedOption (p .«host_pages») × (p .processors < 2 ^ 64)
-SizedHeld (plan.get g) = SizedNode (g .«required_vnode») × (g .len < 2 ^ 64) × SizedOption (g .alignment)
-
 abbrev pub Sized : Record → Type 0
-Sized r = SizedHeld (heldBy r)
+Sized (Shape s) = SizedOption (s .«memory_size»)
+Sized (File r) = SizedRange r
+Sized (Mem e) = SizedRange (e .range) × (e .vnode < 2 ^ 32)
+Sized (Import r) = SizedRange r
+Sized (Used r) = SizedRange r
+Sized (State r) = SizedRange r
+Sized (Config r) = SizedRange r
+Sized (Keep r) = SizedRange r
+Sized (Side r) = SizedRange r
+Sized (Tables r) = SizedRange r
+Sized (Log r) = SizedRange r
+Sized (Gpool r) = SizedRange r
+Sized (Pool p) = SizedConfig (p .config) × SizedOption (p .«host_pages») × (p .processors < 2 ^ 64)
+Sized (Get g) = SizedNode (g .«required_vnode») × (g .len < 2 ^ 64) × SizedOption (g .alignment)

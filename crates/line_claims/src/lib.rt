@@ -1,0 +1,1 @@
+// Definitions and theorems only: the lines that have a record are exactly those that spell one.

@@ -1,0 +1,2 @@
+-- Laws for the proofs of reading a text.
+pub mod Laws

@@ -1,1 +1,0 @@
-// No code: what the texts are that the reader accepts.
