@@ -79,19 +79,11 @@ split-first c (b ∷ bs) h = go (eqb b c) refl (split-first c bs)
     go true e i = rw e
     go false e i = let k = rw e at h in rw (e, i (omega arith), add-one _, add-one _)
 
--- the same by the count of parts: one part is all the bytes, and of several the first is in front of the others
+-- the same by the count of parts
 pub split-one : (c : ℕ) (bs : List ℕ) → length (splitOn c bs) ≡ 1 → splitOn c bs ≡ bs ∷ []
 split-one c bs h = elim (decLt (length (firstPart c bs)) (length bs)) [
   | yes k ↦ absurd (omega (arith, ap length (split-first c bs k), split-some c (drop (length (firstPart c bs) + 1) bs)))
   | no k ↦ split-none c bs (omega arith)
-]
-
-pub split-more : (c : ℕ) (bs : List ℕ) (n : ℕ) → length (splitOn c bs) ≡ n + 2
-    → (splitOn c bs ≡ firstPart c bs ∷ splitOn c (drop (length (firstPart c bs) + 1) bs))
-    × (length (splitOn c (drop (length (firstPart c bs) + 1) bs)) ≡ n + 1)
-split-more c bs n h = elim (decLt (length (firstPart c bs)) (length bs)) [
-  | yes k ↦ (split-first c bs k, omega (arith, ap length (split-first c bs k)))
-  | no k ↦ absurd (omega (arith, ap length (split-none c bs (omega arith))))
 ]
 
 join-cons : (c : ℕ) (p : List ℕ) (ps : List (List ℕ)) → 1 ≤ length ps → joinWith c (p ∷ ps) ≡ p ++ c ∷ joinWith c ps
