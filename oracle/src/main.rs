@@ -8,6 +8,7 @@
 //!     oracle time-plan SIDE STEP TURNS     a step of the plan text on standard input, TURNS times
 //!     oracle stored                        the file of stored hints and pool sizes
 //!     oracle beside COUNT SEED             that many random hints and pool sizes
+//!     oracle grid                          all hints of a grid of counts and sizes
 //!     oracle time SIDE TURNS               the same 4,096 hints, TURNS times
 
 include!(concat!(env!("OUT_DIR"), "/original.rs"));
@@ -42,7 +43,7 @@ fn usage() {
     eprintln!(
         "       oracle time-plan original|no-original|ours|no-ours select|build|pool|gets|plan TURNS"
     );
-    eprintln!("       oracle stored | beside COUNT SEED | time original|ours|neither TURNS");
+    eprintln!("       oracle stored | beside COUNT SEED | grid | time original|ours|neither TURNS");
     exit(2);
 }
 
@@ -80,6 +81,7 @@ fn with_ours(words: &[&str]) {
             true
         }
         ["beside", count, seed] => sizing_beside::beside(number(count), number(seed)),
+        ["grid"] => sizing_beside::grid(),
         ["time", side, turns] => {
             sizing_beside::time(side, number(turns));
             true

@@ -6,17 +6,21 @@ use crate::sizing::{Input, MIB, PoolInput};
 use std::hint::black_box;
 use std::time::Instant;
 
+/// Says so where the two hints differ.
+fn differs(input: Input) -> bool {
+    let (original, ours) = (input.original(), input.ours());
+    if original != ours {
+        println!("{input}: original {original:x}, ours {ours:x}");
+    }
+    original != ours
+}
+
 /// Whether no answer differs.
 pub fn beside(count: u64, seed: u64) -> bool {
     let mut random = Random(seed);
     let mut differ = 0;
     for _ in 0..count {
-        let input = Input::random(&mut random);
-        let (original, ours) = (input.original(), input.ours());
-        if original != ours {
-            differ += 1;
-            println!("{input}: original {original:x}, ours {ours:x}");
-        }
+        differ += differs(Input::random(&mut random)) as u64;
         let input = PoolInput::random(&mut random);
         let (original, ours) = (input.original(), input.ours());
         if original != ours {
@@ -25,6 +29,27 @@ pub fn beside(count: u64, seed: u64) -> bool {
         }
     }
     println!("{count} hints and {count} pool sizes of seed {seed}, {differ} differ");
+    differ == 0
+}
+
+/// Every count from 0 to 1,023, past the last row's, with every MiB from 0 to 131,071, past the remainder's
+/// first turn, in both tables; whether no answer differs.
+pub fn grid() -> bool {
+    let mut inputs = 0u64;
+    let mut differ = 0;
+    for debug in [false, true] {
+        for vp_count in 0..1024 {
+            for mib in 0..131_072 {
+                inputs += 1;
+                differ += differs(Input {
+                    debug,
+                    vp_count,
+                    mem_size: mib * MIB,
+                }) as u64;
+            }
+        }
+    }
+    println!("{inputs} hints, {differ} differ");
     differ == 0
 }
 

@@ -1,5 +1,5 @@
 -- The pages that a lookup table gives a guest (docs/SPEC.md, section 17).
-use Prim.Native.Nat.{ℕ, _-_, _*_, _/_, _%_, _^_}
+use Prim.Native.Nat.{ℕ, _*_, _/_, _%_}
 use mathlib.Core.Bool.{cond, _||_}
 use mathlib.Core.List.{List}
 use lib.Dec.{eqb, leb}
@@ -11,11 +11,11 @@ use Rattle.dma_hint.specs.Pages.{ratioPages}
 
 -- whole MiB of memory
 abbrev pub mibIn : ℕ → ℕ
-mibIn bytes = bytes / 1048576
+mibIn bytes = bytes / 1_048_576
 
--- the first size that is not looked up: 0hFFFFFFFF00000 bytes
+-- the first size that is not looked up, in bytes
 abbrev pub memoryBound : ℕ
-memoryBound = (2 ^ 32 - 1) * 2 ^ 20
+memoryBound = 0xFFFFFFFF00000
 
 -- an exact row: its hint, 256 pages to a MiB; nearest rows: by their ratios, from the whole MiB
 abbrev pub foundPages : ℕ → Found → ℕ
@@ -24,7 +24,7 @@ foundPages mib (nearest rows) = ratioPages mib (smallest rows) (largest rows)
 
 -- counts and MiB are compared with a table's by their remainder by 65,536
 abbrev pub tablePages : List Row → ℕ → ℕ → ℕ
-tablePages rows processors mib = foundPages mib (lookup (processors % 65536) (mib % 65536) rows)
+tablePages rows processors mib = foundPages mib (lookup (processors % 65_536) (mib % 65_536) rows)
 
 -- no memory, or too much, gives 0
 abbrev pub dmaHint : Vtl2GpaPoolLookupTable → ℕ → ℕ → ℕ

@@ -3,3 +3,4 @@ pub mod Table
 pub mod Lookup
 pub mod Ratio
 pub mod Pages
+pub mod Hint

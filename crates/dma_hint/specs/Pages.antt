@@ -8,7 +8,7 @@ meanRatio smallest largest = (smallest + largest) / 2
 
 -- memory by the mean ratio, in pages (256 to a MiB; the ratio is in thousandths), cut down
 abbrev pub quotient : ℕ → ℕ → ℕ → ℕ
-quotient mib smallest largest = mib * 256000 / meanRatio smallest largest
+quotient mib smallest largest = mib * 256_000 / meanRatio smallest largest
 
 -- raised to whole steps of 2 MiB, which are 512 pages
 abbrev pub ratioPages : ℕ → ℕ → ℕ → ℕ

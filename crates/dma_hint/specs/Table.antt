@@ -89,7 +89,11 @@ ascendsFrom c (r ∷ rs) = leb c (processorsOf r) && ascendsFrom (processorsOf r
 abbrev pub ascends : List Row → Bool
 ascends rows = ascendsFrom 0 rows
 
+-- every row passes a test
+abbrev pub every : (Row → Bool) → List Row → Bool
+every test [] = true
+every test (r ∷ rs) = test r && every test rs
+
 -- no row's hint is 0
 abbrev pub hintsGiven : List Row → Bool
-hintsGiven [] = true
-hintsGiven (r ∷ rs) = ltb 0 (hintOf r) && hintsGiven rs
+hintsGiven rows = every (λ r. ltb 0 (hintOf r)) rows

@@ -17,7 +17,7 @@ pub(crate) enum Lookup {
 }
 
 // The rows ascend by count: the nearest ones stand together, before the first row of a larger count,
-// and the search ends there.
+// and the search ends there. A row of a lower count, as most are, is told by one comparison.
 pub(crate) fn find_rows(rows: &[Row], vp_count: u64, mem_size_mb: u64) -> Lookup
     requires { ⌜ T (ascends (now rows)) ⌝ }
     ensures { λ r. ⌜ foundIn (now (rows .entry)) r ≡ lookup «vp_count» «mem_size_mb» (now (rows .entry)) ⌝

@@ -58,7 +58,7 @@ refusalOf (handed x es) = 0
 
 -- a pool of so many pages, split over a table with a free entry of 16 pages for each of three nodes
 abbrev pub threeNodes : List AddressRange
-threeNodes = freeEntry 0 (range 0 65536) ∷ freeEntry 1 (range 65536 131072) ∷ freeEntry 2 (range 131072 196608) ∷ []
+threeNodes = freeEntry 0 (range 0 0x10000) ∷ freeEntry 1 (range 0x10000 0x20000) ∷ freeEntry 2 (range 0x20000 0x30000) ∷ []
 
 abbrev pub overThree : ℕ → Placement
 overThree pages = poolPlaced pages true threeNodes
@@ -78,7 +78,7 @@ placementRefusal (placement.placed xs es) = 0
 
 -- that the definitions give an example's answer
 abbrev pub Holds : Example → Type 0
-Holds (hint table processors mib pages) = dmaHint table processors (mib * 1048576) ≡ pages
+Holds (hint table processors mib pages) = dmaHint table processors (mib * 1_048_576) ≡ pages
 Holds (share size nodes bytes) = shareOf size nodes ≡ bytes
 Holds (taken need start end at) = takenStart need (range start end) ≡ at
 Holds (pieces pages each) = pagesPlaced (overThree pages) ≡ each
@@ -94,30 +94,28 @@ abbrev pub examples : List Example
 examples =
     -- P1: an exact row. P2: a row of the count, but of other memory.
     hint Release 2 96 512 ∷
-    hint Release 2 120 1024 ∷
+    hint Release 2 120 1_024 ∷
     -- P3, P4: no row of the count nor of a lower one, on both sides of a step of 2 MiB.
     hint Release 1 101 512 ∷
-    hint Release 1 102 1024 ∷
+    hint Release 1 102 1_024 ∷
     -- P5: rows of the next lower count only; with the row above it would be 1,536.
-    hint Release 3 140 1024 ∷
+    hint Release 3 140 1_024 ∷
     -- P6: the quotient is cut down before the step; raised it would be 3,584.
-    hint Release 4 389 3072 ∷
+    hint Release 4 389 3_072 ∷
     -- P7: the row's ratio is 124,000, so the smallest stays at 100,000.
-    hint Debug 4 449 1536 ∷
+    hint Debug 4 449 1_536 ∷
     -- P8: divided down, then raised to 32,768; raised first it would be 65,536.
-    share 65537 2 32768 ∷
-    -- P9: the start is cut down to that of the entry, 400000, and all 61,440 bytes are taken; of an entry that ends at
-    -- 410000 the piece starts at 408000.
-    taken 32768 4194304 4255744 4194304 ∷
-    taken 32768 4194304 4259840 4227072 ∷
+    share 65_537 2 32_768 ∷
+    -- P9: the start is cut down to that of the entry, and all 61,440 bytes are taken; of an entry of 65,536 the upper half is.
+    taken 32_768 0x400000 0x40f000 0x400000 ∷
+    taken 32_768 0x400000 0x410000 0x408000 ∷
     -- P10: ten pages over three nodes: the last one gives the rest. Two pages are fewer than the nodes.
     pieces 10 (3 ∷ 3 ∷ 4 ∷ []) ∷
     unsplit 2 28 ∷
-    -- P11: from 205000 to 20e000, alignment 4000: high is 20b000 to 20c000, whose end is aligned and whose start is not; low is
-    -- 208000 to 209000.
-    given 2117632 2154496 HighMemory 16384 2142208 2146304 ∷
-    given 2117632 2154496 LowMemory 16384 2129920 2134016 ∷
-    -- P12: no multiple of 10000 lies within, so no entry fits.
-    turned 2117632 2154496 HighMemory 65536 25 ∷
-    turned 2117632 2154496 LowMemory 65536 25 ∷
+    -- P11: of the high range the end is aligned, and the start here is not; of the low range the start is.
+    given 0x205000 0x20e000 HighMemory 0x4000 0x20b000 0x20c000 ∷
+    given 0x205000 0x20e000 LowMemory 0x4000 0x208000 0x209000 ∷
+    -- P12: no multiple of the alignment lies within, so no entry fits.
+    turned 0x205000 0x20e000 HighMemory 0x10000 25 ∷
+    turned 0x205000 0x20e000 LowMemory 0x10000 25 ∷
     []

@@ -35,7 +35,7 @@ numbers-same (x ∷ xs) (y ∷ ys) t =
     cc
 
 abbrev passes : Example → Bool
-passes (hint table processors mib pages) = eqb (dmaHint table processors (mib * 1048576)) pages
+passes (hint table processors mib pages) = eqb (dmaHint table processors (mib * 1_048_576)) pages
 passes (share size nodes bytes) = eqb (shareOf size nodes) bytes
 passes (taken need start end at) = eqb (takenStart need (range start end)) at
 passes (pieces pages each) = sameNumbers (pagesPlaced (overThree pages)) each
@@ -49,7 +49,7 @@ allPass [] = true
 allPass (e ∷ es) = passes e && allPass es
 
 holds : (e : Example) → T (passes e) → Holds e
-holds (hint table processors mib pages) t = eqb→eq (dmaHint table processors (mib * 1048576)) pages t
+holds (hint table processors mib pages) t = eqb→eq (dmaHint table processors (mib * 1_048_576)) pages t
 holds (share size nodes bytes) t = eqb→eq (shareOf size nodes) bytes t
 holds (taken need start end at) t = eqb→eq (takenStart need (range start end)) at t
 holds (pieces pages each) t = numbers-same (pagesPlaced (overThree pages)) each t

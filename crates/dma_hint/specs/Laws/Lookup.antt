@@ -125,3 +125,17 @@ module _ (count mib : ℕ) where
       → exactOr count mib rows x ≡ x
   no-exact [] x miss = refl
   no-exact (r ∷ rs) x miss = first-miss r rs x (miss 0 (omega arith)) ∙ no-exact rs x (λ k h. miss (suc k) (omega arith))
+
+  -- so what holds of the hint of each row that matches, and of the answer for none, holds of the answer
+  pub exact-either : (P : Found → Type 0) (rows : List Row) (x : Found)
+      → ((k : ℕ) → k < length rows → Matches (getD rows k []) → P (exact (hintOf (getD rows k []))))
+      → P x → P (exactOr count mib rows x)
+  exact-either P [] x each none = none
+  exact-either P (r ∷ rs) x each none =
+      elim (ℕ-discrete (processorsOf r) count) [
+        | yes e ↦ elim (ℕ-discrete (mibOf r) mib) [
+          | yes f ↦ rw (eq-eqb (processorsOf r) count e, eq-eqb (mibOf r) mib f) (each 0 (omega arith) (e, f))
+          | no f ↦ rw (first-miss r rs x (λ m. f (m .1))) (exact-either P rs x (λ k h. each (suc k) (omega arith)) none)
+        ]
+        | no e ↦ rw (first-miss r rs x (λ m. e (m .0))) (exact-either P rs x (λ k h. each (suc k) (omega arith)) none)
+      ]

@@ -10,7 +10,7 @@ use Rattle.dma_hint.specs.declared.lookup.Lookup.the-variants.{Nearest}
 use Rattle.dma_hint.specs.Table.{Row}
 use Rattle.dma_hint.specs.Lookup.{Within, part}
 use Rattle.dma_hint.specs.Hint.{foundPages}
-use Rattle.dma_hint.specs.Laws.Table.{take-hints, drop-hints}
+use Rattle.dma_hint.specs.Laws.Table.{every-take, every-drop}
 use Rattle.dma_hint.specs.Laws.Ratio.{largest-least}
 use Rattle.dma_hint.proofs.hint.table_pages.Statement.{statement}
 use Rattle.dma_hint.proofs.hint.table_pages.Tie as tie
@@ -43,8 +43,8 @@ part-collect-ratios-end c = within (c .before) .1
 collect-ratios-requires : tie.Need-collect-ratios-requires
 collect-ratios-requires c κs =
     let f = c .before .before in
-    take-hints (end f - first f) (drop (first f) (rows f))
-    (drop-hints (first f) (rows f) (f .before .before .before .pre .1 .0))
+    every-take _ (end f - first f) (drop (first f) (rows f))
+    (every-drop _ (first f) (rows f) (f .before .before .before .pre .1 .0))
 
 extrapolate-requires : tie.Need-extrapolate-requires
 extrapolate-requires c κs =

@@ -4,7 +4,8 @@ use native.Mathlib.Omega.{arith}
 use borrow.Author.Needs.{needs}
 use borrow.Author.Tests.{eq-eqb, ne-eqb, le-leb, lt-leb}
 use Rattle.dma_hint.specs.Hint.{memoryBound}
-use Rattle.dma_hint.specs.Laws.Table.{release-ascends, release-hints, debug-ascends, debug-hints}
+use Rattle.host_params.specs.declared.Vtl2GpaPoolLookupTable.the-variants.{Release, Debug}
+use Rattle.dma_hint.specs.Laws.Table.{table-ascends, table-hints}
 use Rattle.dma_hint.proofs.hint.vtl2_calculate_dma_hint.Statement.{statement}
 use Rattle.dma_hint.proofs.hint.vtl2_calculate_dma_hint.Tie as tie
 
@@ -17,10 +18,10 @@ returns-2 c =
     rw (ne-eqb bytes 0 (c .before .if1 .left), le-leb memoryBound bytes (c .if2 .taken))
 
 table-pages-requires : tie.Need-table-pages-requires
-table-pages-requires c κs = rw (c .before .release-rows .ensures) (release-ascends, (release-hints, omega arith))
+table-pages-requires c κs = rw (c .before .release-rows .ensures) (table-ascends Release, (table-hints Release, omega arith))
 
 table-pages-requires-2 : tie.Need-table-pages-requires-2
-table-pages-requires-2 c κs = rw (c .before .debug-rows .ensures) (debug-ascends, (debug-hints, omega arith))
+table-pages-requires-2 c κs = rw (c .before .debug-rows .ensures) (table-ascends Debug, (table-hints Debug, omega arith))
 
 returns-3 : tie.Need-returns-3
 returns-3 c =

@@ -11,7 +11,7 @@ round-up-to-2mb-requires : tie.Need-round-up-to-2mb-requires
 round-up-to-2mb-requires c κs =
     let a = c .before .before .args in
     let mean = meanRatio (a .ratios .«min_ratio_1000th») (a .ratios .«max_ratio_1000th») in
-    omega (arith, div-le-self (a .mem-size-mb * 256000) mean)
+    omega (arith, div-le-self (a .mem-size-mb * 256_000) mean)
 
 pub extrapolate-spec : {M : Type 1} → statement M
 extrapolate-spec =
