@@ -1,18 +1,24 @@
 -- The loop's invariant is `Taking`: the outcome for all nodes is that for the nodes from `node` on, and the
 -- file's pieces stand where they stood, so that each node's need is told from them. A node takes along its links
 -- what it takes of all free entries, and the next one goes on from there, or its refusal is the answer.
-use Prim.Native.Nat.{ℕ, _+_, _-_, _%_, _^_, _<_, min}
+use Prim.Native.Nat.{ℕ, _+_, _-_, _%_, _^_, _≤_, _<_, min}
 use mathlib.Core.Logic.{⊎-elim}
 use mathlib.Core.List.{List}
 use mathlib.Core.Path.{_≡_, refl}
 use native.Mathlib.Omega.{arith}
+use native.Mathlib.Nat.{lt-of-lt-of-le}
+use mir.Syntax.{w32}
+use mir.Val.{Fits}
 use borrow.Author.Needs.{needs}
-use lib.ListN.{getD}
+use lib.ListN.{length, getD}
+use Rattle.memory_range.specs.declared.range.TaggedRange.{TaggedRange}
 use Rattle.memory_range.specs.List.{taggedOf, firstTagged}
 use Rattle.memory_range.specs.Laws.List.{length-tagged}
-use Rattle.refusal.specs.declared.answer.Counted.the-variants.{Count, Refused}
-use Rattle.boot_take.specs.Take.{takeOn, taking}
-use Rattle.boot_take.specs.Laws.Choosing.{choosing-parts}
+use Rattle.refusal.specs.declared.answer.Counted.{Counted}
+use Rattle.boot_take.specs.Take.{takeOn, takeAll, taking}
+use Rattle.boot_nodes.specs.Node.{countUp}
+use Rattle.boot_ram.specs.Verdict.{Verdict, judged}
+use Rattle.boot_take.specs.Laws.Choosing.{Chosen, outcome, choosing, choosing-parts}
 use Rattle.boot_take.specs.Laws.Linked.{Last, take-highest}
 use Rattle.boot_take.specs.Laws.TakeSteps.{takeBelow}
 use Rattle.boot_take.proofs.take.Laws.{Taking, taking-begins, taking-fits, taking-more, taking-refused, taking-done}
@@ -121,6 +127,10 @@ took t =
     (omega (arith, count-min (counted l), tagged, lent .take-on-arg3 .given, lent .before .take-on-arg2 .given, lent .before .before .take-on-arg .given))
     (l .link-by-node .ensures .1 .0)
 
+chosen-as : (c : ℕ) (ss es ts : List ℕ) {vs ws : List Verdict} {a : Counted} {ss′ es′ ts′ : List ℕ} → vs ≡ ws
+    → Chosen c (judged 0 c ws) ss es ts (outcome a ss′ es′ ts′) → Chosen c (judged 0 c vs) ss es ts (outcome a ss′ es′ ts′)
+chosen-as c ss es ts e h = rw e h
+
 link-by-node-requires : tie.Need-link-by-node-requires Inv-loop μ-loop
 link-by-node-requires c κs =
     let j = c .before .before .before in
@@ -136,6 +146,9 @@ loop-holds c =
 need-on-requires : tie.Need-need-on-requires Inv-loop μ-loop
 need-on-requires c κs = taking-fits (c .before .before .before .before .before .before .before .loop .inv)
 
+below-fits : {n : ℕ} → n < 2 ^ 32 → Fits w32 n
+below-fits h = omega arith
+
 -- there are fewer than 2^32 nodes
 node-fits : (t : tie.In-loop Inv-loop μ-loop) → t .before .loop .node + 1 < 2 ^ 32
 node-fits t = omega (arith, t .loop-test .taken, start (t .before) .fits .numa-node-count)
@@ -143,40 +156,59 @@ node-fits t = omega (arith, t .loop-test .taken, start (t .before) .fits .numa-n
 cast-take-on : tie.Need-cast-take-on Inv-loop μ-loop
 cast-take-on c = omega (arith, node-fits (turn (c .before .before .before .before)))
 
+-- a place below the count is in each array of the free entries, and in the links
+in-arrays : (f : ℕ) {p n s e t l : ℕ} → p ≤ n → n ≡ min f 1024 → s ≡ 1024 → e ≡ 1024 → t ≡ 1024 → l ≡ 1024 → (p ≤ s) × (p ≤ e) × (p ≤ t) × (p ≤ l)
+in-arrays f h m hs he ht hl = (omega arith, omega arith, omega arith, omega arith)
+
 take-on-requires : tie.Need-take-on-requires Inv-loop μ-loop
 take-on-requires c κs =
     let k = turn (c .before .before .before .before .before .before .before) .before in
     let l = linked k in
     let p = top k in
     let e = l .link-by-node .ensures in
-    let n = count-min (counted l) in (
-      (omega (arith, p .within, n), omega (arith, p .within, n), omega (arith, p .within, n), omega (arith, p .within, n, e .1 .1 .0)),
-      (λ i h. e .0 i (omega (arith, p .within)), p .own),
+    let lent = c .before .before .before .before in (
+      in-arrays (start k .args .free) (p .within) (count-min (counted l)) (lent .before .before .take-on-arg .given .0) (lent .before .take-on-arg2 .given .0)
+          (lent .take-on-arg3 .given .0) (e .1 .1 .0),
+      (λ i h. e .0 i (lt-of-lt-of-le h (p .within)), p .own),
     )
 
-returns : tie.Need-returns Inv-loop μ-loop
+-- what the contract says of an answer
+parts : (share n : ℕ) (free pieces : List TaggedRange) (ss es ts : List ℕ) {a : Counted} {ss′ es′ ts′ : List ℕ}
+    → choosing (length pieces) (takeAll share pieces free (countUp 0 n)) ss es ts ≡ outcome a ss′ es′ ts′
+    → Chosen (length pieces) (taking share pieces free (countUp 0 n)) ss es ts (outcome a ss′ es′ ts′)
 unfolding taking
+parts share n free pieces ss es ts e = choosing-parts (length pieces) (takeAll share pieces free (countUp 0 n)) ss es ts _ _ _ _ e
+
+abbrev free : tie.Start Inv-loop μ-loop → List TaggedRange
+free s = firstTagged (s .args .free) (s .args .free-starts .now) (s .args .free-ends .now) (s .args .free-nodes .now)
+
+abbrev pieces : tie.Start Inv-loop μ-loop → List TaggedRange
+pieces s = firstTagged (s .args .file-pieces) (s .args .ram-starts .now) (s .args .ram-ends .now) (s .args .ram-nodes .now)
+
+returns : tie.Need-returns Inv-loop μ-loop
 returns c =
     let t = c .before .before .before in
     let u = turn (told t) in
-    let g = c .before .number .given in
-    choosing-parts _ _ _ _ _ (Refused (g .0 .0)) _ _ _
-    (taking-refused (u .before .loop .inv) (u .loop-test .taken) (told t .need-on .ensures) (rw (← took t) at (t .take-on .ensures)) (g .1))
+    let m = u .before .loop in
+    let s = start (u .before) in
+    parts (s .args .share) (s .args .numa-node-count) (free s) (pieces s) (s .args .ram-starts .now) (s .args .ram-ends .now) (s .args .ram-nodes .now)
+    (taking-refused (m .inv) (u .loop-test .taken) (told t .need-on .ensures) (chosen-as (m .chosen) (m .ram-starts) (m .ram-ends) (m .ram-nodes) (took t) (t .take-on .ensures)) (c .before .number .given .1))
 
 add-node : tie.Need-add-node Inv-loop μ-loop
-add-node c = omega (arith, node-fits (turn (told (c .before .before .before))))
+add-node c = below-fits (node-fits (turn (told (c .before .before .before))))
 
 loop-again : tie.Need-loop-again Inv-loop μ-loop
 loop-again c =
     let t = c .before .before .before in
     let u = turn (told t) in
-    taking-more (u .before .loop .inv) (u .loop-test .taken) (told t .need-on .ensures) (rw (← took t) at (t .take-on .ensures)) (c .before .more .given .1)
+    let m = u .before .loop in
+    taking-more (m .inv) (u .loop-test .taken) (told t .need-on .ensures) (chosen-as (m .chosen) (m .ram-starts) (m .ram-ends) (m .ram-nodes) (took t) (t .take-on .ensures)) (c .before .more .given .1)
 
 returns-2 : tie.Need-returns-2 Inv-loop μ-loop
-unfolding taking
 returns-2 c =
-    let l = c .before .loop in
-    choosing-parts _ _ _ _ _ (Count (l .chosen)) _ _ _ (taking-done (l .inv) (c .loop-test .left))
+    let s = start (c .before) in
+    parts (s .args .share) (s .args .numa-node-count) (free s) (pieces s) (s .args .ram-starts .now) (s .args .ram-ends .now) (s .args .ram-nodes .now)
+    (taking-done (c .before .loop .inv) (c .loop-test .left))
 
 pub take-ram-spec : {M : Type 1} → statement M
 take-ram-spec =

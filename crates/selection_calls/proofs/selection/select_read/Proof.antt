@@ -1,23 +1,27 @@
 -- `selection::select_read` meets its contract: rows 4 and 5 by what was seen of both lists, and then selection from as much of them
 -- as there is room for, which comes to the same.
+use Prim.Native.Nat.{ℕ, _≤_, min}
 use mathlib.Core.Path.{_≡_, sym, ap, _∙_}
+use mathlib.Core.Bool.{false}
 use mathlib.Core.List.{List}
 use native.Mathlib.Omega.{arith}
 use borrow.Author.Needs.{needs}
 use denote.Ref.{now}
-use lib.ListN.{take}
-use lib.Seq.{length-take-le}
+use lib.ListN.{length, take, replicate, length-replicate}
+use lib.Seq.{length-take-le, sets, length-sets}
 use Rattle.refusal.specs.Laws.Answer.{rows-refused, rows-none}
 use Rattle.memory_range.specs.declared.range.MemoryRange.{MemoryRange}
 use Rattle.memory_range.specs.List.{rangesOf}
 use Rattle.host_params.specs.declared.MemoryEntry.{MemoryEntry}
-use Rattle.host_map.specs.Map.{mapOf}
-use Rattle.vtl2_ram.specs.Choice.{Choice}
+use Rattle.host_map.specs.Map.{mapOf, mapStarts, mapEnds, mapNodes, mapProtectable}
+use Rattle.boot_ram.specs.Verdict.{maxChosen}
+use Rattle.vtl2_ram.specs.declared.ram.Vtl2Ram.{Vtl2Ram}
+use Rattle.vtl2_ram.specs.Choice.{Choice, entriesOf}
 use Rattle.vtl2_ram.specs.Ram.{ramAs}
 use Rattle.vtl2_ram.specs.Select.{choice}
 use Rattle.plan_input.specs.Room.{mapRoom, importRoom}
-use Rattle.table_words.specs.List.{rangesIn}
-use Rattle.selection_calls.specs.Selection.{wordEntries, choiceIn}
+use Rattle.table_words.specs.List.{rangesIn, rangeRows, column}
+use Rattle.selection_calls.specs.Selection.{wordEntries, choiceIn, countIn}
 use Rattle.selection_calls.proofs.selection.Lent.{map-lent, imports-lent}
 use Rattle.selection_calls.proofs.selection.Told.{told-refused, choice-again, count-again, cut-few, words-refused, words-passed}
 use Rattle.selection_calls.proofs.selection.select_read.Statement.{statement}
@@ -49,6 +53,12 @@ returns c =
     (words-refused (a .mode) (a .isolation) (a .ram-size) (a .file) (map k) (imports k) (listed k .read-map .ensures .1 .0)
     (k .before .check-imports .ensures) e)
 
+-- what is at most the room of an array is within it, whatever is stored there
+in-room : {A : Type 0} (z : A) (room count : ℕ) (xs : List A) {k : ℕ} {l : List A} → l ≡ sets (replicate room z) 0 xs → k ≡ min count room → k ≤ length l
+in-room z room count xs e h =
+    let n = ap length e ∙ length-sets (replicate room z) 0 xs ∙ length-replicate room z in
+    omega arith
+
 -- what is lent of the map and of the imported ranges
 module _ (n : tie.After-at-most2) where
   abbrev rows : tie.After-check-rows
@@ -66,6 +76,23 @@ module _ (n : tie.After-at-most2) where
   imports-held =
       let e = ranges rows .read-ranges .ensures in imports-lent (now (entry rows .args .imports)) (e .0) (e .1) (n .at-most2 .ensures)
 
+  map-room : let l = listed rows .read-map .last .1 in let k = n .before .at-most .result in
+      (k ≤ length (l .0)) × (k ≤ length (l .1 .0)) × (k ≤ length (l .1 .1 .0)) × (k ≤ length (l .1 .1 .1 .0))
+  map-room =
+      let l = listed rows .read-map .ensures .1 .1 in
+      let h = n .before .at-most .ensures in (
+        in-room 0 mapRoom _ (mapStarts (map rows)) (l .0) h,
+        in-room 0 mapRoom _ (mapEnds (map rows)) (l .1 .0) h,
+        in-room 0 mapRoom _ (mapNodes (map rows)) (l .1 .1 .0) h,
+        in-room false mapRoom _ (mapProtectable (map rows)) (l .1 .1 .1) h,
+      )
+
+  imports-room : let l = ranges rows .read-ranges .last .1 in let k = n .at-most2 .result in (k ≤ length (l .0)) × (k ≤ length (l .1 .0))
+  imports-room =
+      let e = ranges rows .read-ranges .ensures in
+      let words = rangeRows (now (entry rows .args .imports)) in
+      (in-room 0 importRoom _ (column 0 words) (e .0) (n .at-most2 .ensures), in-room 0 importRoom _ (column 1 words) (e .1) (n .at-most2 .ensures))
+
 -- what selection comes to from that
 module _ (f : tie.After-select-from-lists) where
   abbrev lent : tie.After-at-most2
@@ -79,13 +106,16 @@ module _ (f : tie.After-select-from-lists) where
   held : f .select-from-lists .result ≡ ramAs cut
   held = rw (map-held lent, imports-held lent) at (f .select-from-lists .ensures)
 
+count-fits : {r : Vtl2Ram} (c : Choice) → r ≡ ramAs c → length (entriesOf c) ≤ maxChosen → countIn (r .selection) ≤ maxChosen
+count-fits c e h = rw (e, count-again c) h
+
 store-ram-requires : tie.Need-store-ram-requires
 store-ram-requires c κs =
     let f = c .before .before in
     let a = entry (rows (lent f)) .args in
     let k = rows (lent f) in
     let few = cut-few (a .mode) (a .isolation) (a .ram-size) (a .file) (map k) (imports k) in
-    (rw (held f) (omega (arith, count-again (cut f), few)), entry k .pre .1)
+    (count-fits (cut f) (held f) few, entry k .pre .1)
 
 returns-2 : tie.Need-returns-2
 returns-2 c =
@@ -117,18 +147,18 @@ select-read-spec =
     (λ c. search needs)
     (λ c κs. search needs)
     (λ c κs. search needs)
-    (λ c. search needs)
-    (λ c. sym (length-take-le _ _ (search needs)))
-    (λ c. search needs)
-    (λ c. sym (length-take-le _ _ (search needs)))
-    (λ c. search needs)
-    (λ c. sym (length-take-le _ _ (search needs)))
-    (λ c. search needs)
-    (λ c. sym (length-take-le _ _ (search needs)))
-    (λ c. search needs)
-    (λ c. sym (length-take-le _ _ (search needs)))
-    (λ c. search needs)
-    (λ c. sym (length-take-le _ _ (search needs)))
+    (λ c. map-room c .0)
+    (λ c. sym (length-take-le _ _ (map-room (c .before) .0)))
+    (λ c. map-room (c .before) .1)
+    (λ c. sym (length-take-le _ _ (map-room (c .before .before) .1)))
+    (λ c. map-room (c .before .before) .2)
+    (λ c. sym (length-take-le _ _ (map-room (c .before .before .before) .2)))
+    (λ c. map-room (c .before .before .before) .3)
+    (λ c. sym (length-take-le _ _ (map-room (c .before .before .before .before) .3)))
+    (λ c. imports-room (c .before .before .before .before) .0)
+    (λ c. sym (length-take-le _ _ (imports-room (c .before .before .before .before .before) .0)))
+    (λ c. imports-room (c .before .before .before .before .before) .1)
+    (λ c. sym (length-take-le _ _ (imports-room (c .before .before .before .before .before .before) .1)))
     (λ c κs. search needs)
     store-ram-requires
     returns

@@ -1,5 +1,6 @@
 -- Where the file walk does not refuse, the arrays hold what it chose and what it left free, which is what the definition
 -- hands to the parts beside the file.
+use Prim.Native.Nat.{_≤_}
 use mathlib.Core.Path.{_≡_, ap, sym, _∙_}
 use mathlib.Core.List.{List}
 use mathlib.Core.Option.{none}
@@ -36,6 +37,11 @@ imports s = rangesOf (s .args .import-starts .now) (s .args .import-ends .now)
 abbrev pieces : tie.Start → Judged
 pieces s = fileWalk (s .args .file) (map s)
 
+-- what the file walk chose and left free has room in the arrays
+pieces-fit : (file : MemoryRange) (m : List TaggedRange)
+    → (length (fileWalk file m .chosen) ≤ maxChosen) × (length (fileWalk file m .free) ≤ maxFree)
+pieces-fit file m = (omega (arith, file-bounds file m .1), omega (arith, file-bounds file m .0))
+
 -- where the file walk does not refuse, its pieces are found in the arrays
 abbrev start : tie.After-file-pieces → tie.Start
 start c = entry (c .before .before)
@@ -59,7 +65,7 @@ chosen-found : (c : tie.After-file-pieces)
     Found (c .file-pieces .given .0 .0) (pieces (start c) .chosen) (l .0) (l .1 .0) (l .1 .1 .0)
 chosen-found c =
     let s = start c in
-    stored-found (chosen-stored (c .before .before)) (omega (arith, file-bounds (s .args .file) (map s) .1)) (walked c .1)
+    stored-found (chosen-stored (c .before .before)) (pieces-fit (s .args .file) (map s) .0) (walked c .1)
 
 free-found : (c : tie.After-file-pieces)
     → let l = c .before .before .walk-file .last .1 .1 .1 .1 .1 .1 .1 in
@@ -68,7 +74,7 @@ free-found c =
     let s = start c in
     let e = c .before .before .walk-file .ensures .1 .1 .1 .1 in
     let stored : Stored maxFree (pieces s .free) _ _ _ = record { starts = e .0; ends = e .1 .0; tags = e .1 .1 } in
-    stored-found stored (omega (arith, file-bounds (s .args .file) (map s) .0)) (walked c .2)
+    stored-found stored (pieces-fit (s .args .file) (map s) .1) (walked c .2)
 
 -- the parts are those beside the file
 beside : (c : tie.After-file-pieces)

@@ -1,12 +1,15 @@
 -- `rows::check_rows` meets its contract: each way out is a law of the rows, from what the checks before it found.
+use Prim.Native.Nat.{ℕ}
 use mathlib.Core.Path.{_≡_, ap, sym, _∙_}
 use mathlib.Core.Bool.{Bool, true, _&&_}
 use mathlib.Core.List.{List}
 use borrow.Author.Needs.{needs}
 use borrow.Author.Tests.{not-true, not-false}
+use lib.ListN.{length}
 use Rattle.memory_range.specs.declared.range.MemoryRange.{MemoryRange}
 use Rattle.memory_range.specs.List.{rangesOf}
 use Rattle.memory_range.specs.Valid.{validRange, allValid, ascend}
+use Rattle.vtl2_ram.specs.Rows.{countsGood}
 use Rattle.vtl2_ram.specs.Laws.Rows.{known-invalid, known-imports-invalid, known-descend, known-imports-descend, known-count, known-good}
 use Rattle.vtl2_ram.proofs.rows.check_rows.Statement.{statement}
 use Rattle.vtl2_ram.proofs.rows.check_rows.Tie as tie
@@ -31,6 +34,17 @@ imports-valid c = sym (c .before .ranges-valid .ensures) ∙ not-false _ (c .if2
 
 imports-ascend : (c : tie.Else4) → ascend (imports (start (c .before .before .before .before .before .before .before .before))) ≡ true
 imports-ascend c = sym (c .before .ranges-ascend .ensures) ∙ not-false _ (c .if4 .left)
+
+-- what the last check looks at
+abbrev entry : tie.After-counts-good → tie.Start
+entry c = start (c .before .before .before .before .before .before .before .before .before .before)
+
+counted : (c : tie.After-counts-good)
+    → let s = entry c in
+    c .counts-good .result ≡ countsGood (s .args .mode) (s .args .map-count) (length (imports s))
+counted c =
+    let a = entry c .args in
+    c .counts-good .ensures ∙ ap (λ (n : ℕ). countsGood (a .mode) (a .map-count) n) (c .before .range-count .ensures)
 
 returns : tie.Need-returns
 returns c =
@@ -78,11 +92,10 @@ returns-5 c =
     let e = d .before .before in
     let s = start (e .before .before) in
     let a = s .args in
-    let bad = not-true (c .before .counts-good .result) (c .if5 .taken) in
-    let n = c .before .before .range-count .ensures in
+    let bad = sym (counted (c .before)) ∙ not-true _ (c .if5 .taken) in
     rw
     (known-count (a .mode) (a .file) (a .map-check .valid) (a .map-check .ascending) (a .map-count) (imports s) (map-valid e)
-    (imports-valid d) (not-false _ (o .if3 .left)) (imports-ascend p) (cc (c .before .counts-good .ensures)))
+    (imports-valid d) (not-false _ (o .if3 .left)) (imports-ascend p) bad)
 
 returns-6 : tie.Need-returns-6
 returns-6 c =
@@ -92,11 +105,10 @@ returns-6 c =
     let e = d .before .before in
     let s = start (e .before .before) in
     let a = s .args in
-    let good = not-false (c .before .counts-good .result) (c .if5 .left) in
-    let n = c .before .before .range-count .ensures in
+    let good = sym (counted (c .before)) ∙ not-false _ (c .if5 .left) in
     rw
     (known-good (a .mode) (a .file) (a .map-check .valid) (a .map-check .ascending) (a .map-count) (imports s) (map-valid e)
-    (imports-valid d) (not-false _ (o .if3 .left)) (imports-ascend p) (cc (c .before .counts-good .ensures)))
+    (imports-valid d) (not-false _ (o .if3 .left)) (imports-ascend p) good)
 
 pub check-rows-spec : {M : Type 1} → statement M
 check-rows-spec =
