@@ -1,6 +1,6 @@
 -- Of the hint of either table, for every count and every memory: it is a whole number of steps of 2 MiB; it is below
 -- 2^52 pages, which a placement does not refuse as 27; and memory below 1 MiB gives 0.
-use Prim.Native.Nat.{ℕ, _+_, _*_, _/_, _%_, _^_, _≤_, _<_}
+use Prim.Native.Nat.{ℕ, _*_, _/_, _%_, _^_, _<_}
 use mathlib.Core.Path.{_≡_, refl}
 use mathlib.Core.List.{List, []}
 use native.Mathlib.Decide.{decLt, ℕ-discrete}
@@ -12,10 +12,10 @@ use lib.ListN.{length, getD}
 use Rattle.host_params.specs.declared.Vtl2GpaPoolLookupTable.{Vtl2GpaPoolLookupTable}
 use Rattle.memory_range.specs.Laws.Round.{Multiple}
 use Rattle.dma_hint.specs.Table.{Row, mibOf, hintOf, rowsOf}
-use Rattle.dma_hint.specs.Lookup.{Found, nearest, nearestRows}
+use Rattle.dma_hint.specs.Lookup.{nearest, nearestRows}
 use Rattle.dma_hint.specs.Ratio.{smallest, largest}
 use Rattle.dma_hint.specs.Pages.{meanRatio}
-use Rattle.dma_hint.specs.Hint.{mibIn, memoryBound, foundPages, tablePages, dmaHint}
+use Rattle.dma_hint.specs.Hint.{mibIn, memoryBound, foundPages, dmaHint}
 use Rattle.dma_hint.specs.Laws.Table.{every-at, inSteps, in16Bits, someMemory, table-steps, table-16-bits, table-memory}
 use Rattle.dma_hint.specs.Laws.Lookup.{Matches, exact-either}
 use Rattle.dma_hint.specs.Laws.Pages.{pages-multiple, pages-near}

@@ -1,7 +1,7 @@
 -- Ratio sizing: the pages are the least multiple of 512 that is not below the quotient; they are less than one page
 -- below the memory by the mean ratio, unrounded, and less than 512 above it; more memory never gives fewer. The mean
 -- ratio, by which the quotient divides, is not 0, whatever rows give it.
-use Prim.Native.Nat.{ℕ, suc, _+_, _*_, _≤_, _<_}
+use Prim.Native.Nat.{ℕ, _+_, _*_, _≤_, _<_}
 use mathlib.Core.List.{List}
 use native.Mathlib.Omega.{arith}
 use native.Mathlib.Nat.{add-mul, div-add-mod', mod-lt, mul-le-mul-right}
