@@ -28,7 +28,7 @@ module _ {M : Type 1} {𝓤 : URA M} {H : Heap 𝓤} {A : Atoms 𝓤} {J : Type 
   pub big-lit : J → {w : Width} {n : ℕ} → Fits w n → Opd J W Γ En (intBig w n) (vint w n)
   big-lit t {w} {n} z = record { go = λ Kt h. via 𝓤 (Kt (vint w n)) h (guardI 𝓤 (Fits w n) (Kt (vint w n)) z) }
 
--- What is read of a local that holds a struct. Types and values are any, and equations say which: spelt out they are long, and a
+-- What is read of a local that holds a struct. Types and values are any, and equations say which: written out they are long, and a
 -- walk only carries them along.
 module _ {M : Type 1} {𝓤 : URA M} {H : Heap 𝓤} {A : Atoms 𝓤} {J : Type 0} {W : Given 𝓤 H A} where
   -- all of it, as a part of what is held

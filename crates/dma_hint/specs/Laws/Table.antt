@@ -1,5 +1,5 @@
 -- Of the two lookup tables, each by one computed test: they ascend by count of processors, on which the search rests;
--- no hint is 0, by which a ratio divides; every hint is a whole number of steps of 2 MiB, with 16 bits; no row is for less
+-- no hint is 0, by which a ratio divides; every hint is a whole number of steps of 2 MiB and has 16 bits; no row is for less
 -- than 1 MiB. Of any rows that all pass a test: so does each of them, and so do the rows of a part.
 use Prim.Native.Nat.{ℕ, zero, suc, _%_, _^_, _<_}
 use mathlib.Core.Bool.{Bool}

@@ -68,7 +68,7 @@ use Rattle.plan.proofs.get.answer_get.Statement as stated
 use Rattle.plan.proofs.get.answer_get.Code as code
 use Rattle.plan.proofs.get.answer_get.Code.Mir as body
 
--- the MIR types of the locals, as `code.function` has them. It is shut: spelt out they are long, and the walk only carries them along
+-- the MIR types of the locals, as `code.function` has them; opaque, since written out they are long, and the walk only carries them along
 ty : ℕ → Ty
 ty k = type-at body.locals k
 
