@@ -1,15 +1,16 @@
 -- The entries of a node, and which bytes entries hold; the laws of the parts are stated by it (docs/SPEC.md, section 19).
-use Prim.Native.Nat.{ℕ, _%_, _<_}
+use Prim.Native.Nat.{ℕ, _+_, _%_, _≤_, _<_}
 use mathlib.Core.Path.{_≡_}
 use mathlib.Core.Bool.{cond}
 use mathlib.Core.List.{List, [], _∷_}
 use lib.Dec.{eqb}
+use lib.ListN.{length}
 use Rattle.memory_range.specs.declared.range.MemoryRange.{MemoryRange}
 use Rattle.memory_range.specs.declared.range.TaggedRange.{TaggedRange}
 use Rattle.memory_range.specs.Bytes.{holders, byteCount, All}
 use Rattle.memory_range.specs.List.{rangesIn}
 use Rattle.memory_range.specs.Valid.{pageSize}
-use Rattle.boot_ram.specs.Verdict.{Verdict, free, choose, refuse, pass}
+use Rattle.boot_ram.specs.Verdict.{Verdict, free, choose, refuse, pass, maxFree, maxChosen}
 
 -- the entries of a node
 abbrev pub onNode : ℕ → List TaggedRange → List TaggedRange
@@ -38,6 +39,10 @@ chosenIn (free x ∷ vs) = chosenIn vs
 chosenIn (choose x ∷ vs) = x ∷ chosenIn vs
 chosenIn (refuse n ∷ vs) = chosenIn vs
 chosenIn (pass ∷ vs) = chosenIn vs
+
+-- all pieces of verdicts are within the bounds, with f free and c chosen ones that are held already
+abbrev pub Fits : ℕ → ℕ → List Verdict → Type 0
+Fits f c vs = (f + length (freeIn vs) ≤ maxFree) × (c + length (chosenIn vs) ≤ maxChosen)
 
 -- an address is a page multiple
 abbrev pub AtPage : ℕ → Type 0

@@ -1,5 +1,7 @@
 -- The imported ranges (docs/SPEC.md, section 19).
-use Prim.Native.Nat.{_-_, _^_}
+use Prim.Native.Nat.{ℕ, _-_, _^_, _≤_, _<_}
+use mathlib.Core.Path.{_≡_}
+use mathlib.Core.Logic.{_⊎_}
 use mathlib.Core.Bool.{Bool, true, false, cond, _&&_, _||_, not}
 use mathlib.Core.List.{List, [], _∷_}
 use lib.Dec.{eqb}
@@ -10,7 +12,8 @@ use Rattle.memory_range.specs.declared.range.TaggedRange.{TaggedRange}
 use Rattle.range_lists.specs.declared.walk.RangeWalkResult.{RangeWalkResult}
 use Rattle.range_lists.specs.declared.walk.RangeWalkResult.the-variants.{Left, Right, Both}
 use Rattle.range_lists.specs.declared.walk.WalkPiece.{WalkPiece}
-use Rattle.memory_range.specs.Range.{range, containsRange, overlapRanges}
+use Rattle.memory_range.specs.Bytes.{holders}
+use Rattle.memory_range.specs.Range.{range, holds, containsRange, overlapRanges}
 use Rattle.memory_range.specs.Valid.{pageSize}
 use Rattle.range_lists.specs.Walk.{walk}
 use Rattle.host_params.specs.declared.IsolationType.{IsolationType}
@@ -34,6 +37,11 @@ isTdx Cca = false
 -- a piece that Tdx excuses: exactly the page below 4 GiB
 abbrev pub isExcused : IsolationType → MemoryRange → Bool
 isExcused i r = isTdx i && (eqb (r .start) (2 ^ 32 - pageSize) && eqb (r .end) (2 ^ 32))
+
+-- a byte that may be imported: one of the file or of the entries, or, under Tdx, of that page
+abbrev pub MayBeImported : IsolationType → MemoryRange → List MemoryRange → ℕ → Type 0
+MayBeImported i file entries a =
+    (holds file a ≡ true) ⊎ ((0 < holders entries a) ⊎ ((isTdx i ≡ true) × (2 ^ 32 - pageSize ≤ a) × (a < 2 ^ 32)))
 
 -- a piece of an imported range that no free entry holds: passed over where the imported range lies inside
 -- the file, or where the piece itself is excused

@@ -5,4 +5,5 @@ pub mod Boot
 pub mod Host
 pub mod Select
 pub mod Claim
+pub mod Rule
 pub mod Laws

@@ -1,7 +1,9 @@
 -- What the file walk means where it is accepted: the chosen pieces hold the file's bytes, the free ones hold
--- the other bytes of the map, each on its node; and the file lies in the map.
+-- the other bytes of the map, each on its node; and the file lies in the map. Where it is refused, the file does not,
+-- or the pieces are too many.
 use Prim.Native.Nat.{ℕ, _%_, _<_}
-use mathlib.Core.Path.{_≡_, refl, ap, _∙_}
+use mathlib.Core.Path.{_≡_, refl, ap, sym, _∙_}
+use mathlib.Core.Logic.{_⊎_, inl, inr, ⊎-elim}
 use mathlib.Core.Bool.{Bool, true, false, cond}
 use mathlib.Core.List.{List, [], _∷_}
 use mathlib.Core.Option.{Option, none, some}
@@ -16,14 +18,17 @@ use Rattle.range_lists.specs.declared.walk.WalkPiece.{WalkPiece}
 use Rattle.memory_range.specs.Bytes.{holders, itemAt, Ordered, All}
 use Rattle.memory_range.specs.Range.{holds}
 use Rattle.range_lists.specs.Walk.{heldBy, walk}
-use Rattle.memory_range.specs.Laws.Bytes.{counted, holders-items}
+use Rattle.memory_range.specs.Laws.Bytes.{counted, holders-items, all-map}
+use Rattle.memory_range.specs.Laws.Range.{held}
 use Rattle.range_lists.specs.Laws.Pieces.{resultAt}
-use Rattle.range_lists.specs.Laws.Walk.{walk-at}
+use Rattle.range_lists.specs.Laws.Walk.{leftItem, rightItem, Says, walk-at}
 use Rattle.boot_ram.specs.File.{onNodeOf, fileVerdict, fileVerdicts, fileWalk}
-use Rattle.boot_ram.specs.Held.{holdersOn, freeIn, chosenIn, Paged}
-use Rattle.boot_ram.specs.Laws.Judged.{NotRefused, judged-accepted, accepted-none-refused}
+use Rattle.boot_ram.specs.Held.{holdersOn, freeIn, chosenIn, Fits, Paged}
+use Rattle.boot_ram.specs.Laws.Judged.{NotRefused, RefusesAs, judged-accepted, accepted-none-refused, accepted-fits, judged-told}
 use Rattle.boot_ram.specs.Laws.Walks.{rangesFor, isNode, ranges-on}
-use Rattle.boot_ram.specs.Laws.Walks.{bothItem, rightOnly, keptWith, kept, both-bytes, right-bytes, kept-ordered, kept-paged}
+use Rattle.boot_ram.specs.Laws.Walks.{bothItem, rightOnly, keptWith, kept, both-bytes, right-bytes, kept-ordered, kept-paged, walk-each}
+use Rattle.boot_ram.specs.Verdict.{Verdict}
+use Rattle.refusal.specs.Number.{fileNotInMap, tooManyPieces}
 
 free-kept : (m : List TaggedRange) (ps : List WalkPiece) → freeIn (fileVerdicts m ps) ≡ kept m rightOnly ps
 free-kept m [] = refl
@@ -66,8 +71,58 @@ one-holds r a x y = go (holds r a) refl
     go true e = rw e
     go false e = rw e
 
+-- a walk is refused as not in the map only at a piece in the file alone
+verdicts-all : (P : Verdict → Type 0) (m : List TaggedRange) (ps : List WalkPiece) → All (λ p. P (fileVerdict m (p .range) (p .result))) ps
+    → All P (fileVerdicts m ps)
+verdicts-all P m [] h = tt
+verdicts-all P m (p ∷ ps) h = (h .0, verdicts-all P m ps (h .1))
+
+refuses-as : (m : List TaggedRange) (r : MemoryRange) (h : RangeWalkResult) → RefusesAs fileNotInMap (fileVerdict m r h)
+refuses-as m r (Left i) = refl
+refuses-as m r (Right j) = tt
+refuses-as m r (Both i j) = tt
+
+-- a list of one range holds a byte where the range does
+held-by-one : (r : MemoryRange) (a : ℕ) → holders (r ∷ []) a ≡ 1 → holds r a ≡ true
+held-by-one r a e = go (holds r a) refl
+  where
+    go : (t : Bool) → holds r a ≡ t → t ≡ true
+    go true h = refl
+    go false h = absurd (omega (arith, rw h at e))
+
 abbrev filePiecesIn : MemoryRange → List TaggedRange → List WalkPiece
 filePiecesIn file m = walk (file ∷ []) (rangesIn m)
+
+module _ (file : MemoryRange) (m : List TaggedRange) (full : file .start < file .end) (om : Ordered 0 (rangesIn m)) where
+  -- a piece of a file that lies in the map is not refused
+  piece-kept : ((a : ℕ) → holds file a ≡ true → 0 < holders (rangesIn m) a)
+      → (p : WalkPiece) → (p .range .start < p .range .end) × Says (file ∷ []) (rangesIn m) p → NotRefused (fileVerdict m (p .range) (p .result))
+  piece-kept inside p s = go (p .result) (s .1 a (held (p .range) a .1 (omega arith, s .0)))
+    where
+      a : ℕ
+      a = p .range .start
+
+      go : (h : RangeWalkResult) → (leftItem h ≡ itemAt (file ∷ []) a) × (rightItem h ≡ itemAt (rangesIn m) a) → NotRefused (fileVerdict m (p .range) h)
+      go (Right j) q = tt
+      go (Both i j) q = tt
+      go (Left i) q =
+          let one = holders-items 0 0 (file ∷ []) a (omega arith, (full, tt)) ∙ ap counted (sym (q .0)) in
+          let none = holders-items 0 0 (rangesIn m) a om ∙ ap counted (sym (q .1)) in
+          absurd (omega (arith, none, inside a (held-by-one file a one)))
+
+  -- why a file walk is refused
+  pub file-told : {n : ℕ} → fileWalk file m .refusal ≡ some n
+      → ((n ≡ fileNotInMap) × (((a : ℕ) → holds file a ≡ true → 0 < holders (rangesIn m) a) → ⊥))
+      ⊎ ((n ≡ tooManyPieces) × (Fits 0 0 (fileVerdicts m (filePiecesIn file m)) → ⊥))
+  unfolding fileWalk
+  file-told e =
+      let ps = filePiecesIn file m in
+      let each = walk-each (file ∷ []) (rangesIn m) (omega arith, (full, tt)) om in
+      let numbers = all-map (λ p s. refuses-as m (p .range) (p .result)) ps each in
+      ⊎-elim
+      (λ t. inl (t .0, λ inside. t .1 (verdicts-all NotRefused m ps (all-map (piece-kept inside) ps each))))
+      inr
+      (judged-told fileNotInMap 0 0 (fileVerdicts m ps) (verdicts-all (RefusesAs fileNotInMap) m ps numbers) e)
 
 module _ (file : MemoryRange) (m : List TaggedRange) (accepted : fileWalk file m .refusal ≡ none) (full : file .start < file .end)
     (om : Ordered 0 (rangesIn m)) where
@@ -105,6 +160,11 @@ module _ (file : MemoryRange) (m : List TaggedRange) (accepted : fileWalk file m
           → holders (rangesIn m) a ≡ 1
       go none c e = absurd (none-alone m (filePiecesIn file m) a 0 (accepted-none-refused 0 0 (fileVerdicts m (filePiecesIn file m)) accepted) e)
       go (some j) c e = c
+
+  -- the pieces are no more than can be held
+  pub file-fits : Fits 0 0 (fileVerdicts m (filePiecesIn file m))
+  unfolding fileWalk
+  file-fits = accepted-fits 0 0 (fileVerdicts m (filePiecesIn file m)) (omega arith) (omega arith) accepted
 
   -- the pieces are nonempty, ascending and disjoint
   pub file-chosen-ordered : Ordered 0 (rangesIn (fileWalk file m .chosen))

@@ -1,16 +1,16 @@
 -- What the import walk means where it is accepted: the free pieces hold the bytes of the free entries that no
 -- imported range holds, each on its node; and the imported ranges lie in the file, in the free entries or, under
--- Tdx, in the page below 4 GiB.
-use Prim.Native.Nat.{ℕ, _-_, _^_, _%_, _≤_, _<_}
-use mathlib.Core.Path.{_≡_, refl, ap, _∙_}
+-- Tdx, in the page below 4 GiB. Where it is refused, they do not, or the pieces are too many.
+use Prim.Native.Nat.{ℕ, zero, suc, _-_, _^_, _%_, _≤_, _<_}
+use mathlib.Core.Path.{_≡_, refl, ap, sym, _∙_}
 use mathlib.Core.Logic.{_⊎_, inl, inr, ⊎-elim}
-use mathlib.Core.Bool.{Bool, true, false, cond, _&&_, _||_, and-eq-true-iff}
+use mathlib.Core.Bool.{Bool, true, false, cond, _&&_, _||_, not, or-true, and-eq-true-iff, true≢false}
 use mathlib.Core.List.{List, [], _∷_}
 use mathlib.Core.Option.{Option, none, some, Option·none-ne-some}
 use native.Mathlib.Omega.{arith}
 use lib.Dec.{eqb}
 use lib.ListN.{getD}
-use borrow.Author.Tests.{eqb-true}
+use borrow.Author.Tests.{eqb-true, eq-eqb}
 use Rattle.memory_range.specs.declared.range.MemoryRange.{MemoryRange}
 use Rattle.memory_range.specs.declared.range.TaggedRange.{TaggedRange}
 use Rattle.range_lists.specs.declared.walk.RangeWalkResult.{RangeWalkResult}
@@ -18,22 +18,22 @@ use Rattle.range_lists.specs.declared.walk.RangeWalkResult.the-variants.{Left, 
 use Rattle.range_lists.specs.declared.walk.WalkPiece.{WalkPiece}
 use Rattle.memory_range.specs.Bytes.{holders, itemAt, Ordered, All}
 use Rattle.memory_range.specs.List.{rangesIn}
-use Rattle.memory_range.specs.Range.{range, holds, containsRange}
+use Rattle.memory_range.specs.Range.{range, holds, containsRange, overlapRanges}
 use Rattle.memory_range.specs.Valid.{pageSize}
 use Rattle.range_lists.specs.Walk.{boundaries, heldBy, walk}
-use Rattle.memory_range.specs.Laws.Bytes.{counted, holders-items, item-holds}
+use Rattle.memory_range.specs.Laws.Bytes.{counted, holders-items, item-holds, all-map, all-both}
 use Rattle.range_lists.specs.Laws.Pieces.{resultAt}
-use Rattle.memory_range.specs.Laws.Range.{held, contains-bytes}
-use Rattle.range_lists.specs.Laws.Walk.{walk-at}
+use Rattle.memory_range.specs.Laws.Range.{held, contains-none, contains-bytes, overlap-byte}
+use Rattle.range_lists.specs.Laws.Walk.{leftItem, rightItem, Says, walk-at, walk-ends}
 use Rattle.host_params.specs.declared.IsolationType.{IsolationType}
 use Rattle.boot_ram.specs.File.{onNodeOf}
-use Rattle.boot_ram.specs.Held.{AtPage, holdersOn, freeIn, Paged}
-use Rattle.boot_ram.specs.Import.{isTdx, isExcused, isSkipped, importVerdict, importVerdicts, importWalk}
+use Rattle.boot_ram.specs.Held.{AtPage, PagedRange, holdersOn, freeIn, Fits, Paged}
+use Rattle.boot_ram.specs.Import.{importsClear, isTdx, isExcused, MayBeImported, isSkipped, importVerdict, importVerdicts, importWalk}
 use Rattle.boot_ram.specs.Verdict.{Verdict, pass, refuse}
-use Rattle.refusal.specs.Number.{importNotInMap}
-use Rattle.boot_ram.specs.Laws.Judged.{NotRefused, judged-accepted, accepted-none-refused}
+use Rattle.refusal.specs.Number.{importNotInMap, tooManyPieces}
+use Rattle.boot_ram.specs.Laws.Judged.{NotRefused, RefusesAs, judged-accepted, accepted-none-refused, accepted-fits, judged-told}
 use Rattle.boot_ram.specs.Laws.Walks.{rangesFor, isNode, ranges-on}
-use Rattle.boot_ram.specs.Laws.Walks.{rightOnly, keptWith, kept, right-bytes, kept-ordered, kept-paged}
+use Rattle.boot_ram.specs.Laws.Walks.{rightOnly, keptWith, kept, right-bytes, kept-ordered, kept-paged, paged-boundaries, walk-each}
 
 module _ (i : IsolationType) (file : MemoryRange) (imports : List MemoryRange) (m : List TaggedRange) where
   free-kept : (ps : List WalkPiece) → freeIn (importVerdicts i file imports m ps) ≡ kept m rightOnly ps
@@ -73,11 +73,10 @@ module _ (i : IsolationType) (file : MemoryRange) (imports : List MemoryRange) (
 
   -- a byte of an imported range in a piece that is passed over lies in the file or in the excused page
   skipped-byte : (s r : MemoryRange) (a : ℕ) → holds s a ≡ true → holds r a ≡ true → isSkipped i file s r ≡ true
-      → (holds file a ≡ true) ⊎ ((isTdx i ≡ true) × (2 ^ 32 - pageSize ≤ a) × (a < 2 ^ 32))
+      → MayBeImported i file [] a
   skipped-byte s r a hs hr e = go (containsRange file s) refl e
     where
-      go : (t : Bool) → containsRange file s ≡ t → (t || isExcused i r) ≡ true
-          → (holds file a ≡ true) ⊎ ((isTdx i ≡ true) × (2 ^ 32 - pageSize ≤ a) × (a < 2 ^ 32))
+      go : (t : Bool) → containsRange file s ≡ t → (t || isExcused i r) ≡ true → MayBeImported i file [] a
       go true c f = inl (contains-bytes file s .0 c a hs)
       go false c f =
           let t = and-eq-true-iff (isTdx i) (eqb (r .start) (2 ^ 32 - pageSize) && eqb (r .end) (2 ^ 32)) .0 f in
@@ -85,11 +84,100 @@ module _ (i : IsolationType) (file : MemoryRange) (imports : List MemoryRange) (
           let start = eqb-true (r .start) (2 ^ 32 - pageSize) (u .0) in
           let end = eqb-true (r .end) (2 ^ 32) (u .1) in
           let b = held r a .0 hr in
-          inr (t .0, omega arith, omega arith)
+          inr (inr (t .0, omega arith, omega arith))
 
-paged-ends : (rs : List MemoryRange) → All (λ r. (r .start % 4096 ≡ 0) × (r .end % 4096 ≡ 0)) rs → All AtPage (boundaries rs)
+-- a range starts and ends at pages
+abbrev pub AtPages : MemoryRange → Type 0
+AtPages r = AtPage (r .start) × AtPage (r .end)
+
+paged-ends : (rs : List MemoryRange) → All AtPages rs → All AtPage (boundaries rs)
 paged-ends [] h = tt
 paged-ends (r ∷ rs) h = (h .0 .0, (h .0 .1, paged-ends rs (h .1)))
+
+-- an imported range that is clear of the file, and not inside it, has no byte of it
+clear-at : (file : MemoryRange) (rs : List MemoryRange) → importsClear file rs ≡ true → (k : ℕ)
+    → let s = getD rs k (range 0 0) in (not (overlapRanges file s) || containsRange file s) ≡ true
+clear-at file [] c k = rw (contains-none file (range 0 0) (omega arith), or-true)
+clear-at file (r ∷ rs) c zero = and-eq-true-iff (not (overlapRanges file r) || containsRange file r) (importsClear file rs) .0 c .0
+clear-at file (r ∷ rs) c (suc k) =
+    clear-at file rs (and-eq-true-iff (not (overlapRanges file r) || containsRange file r) (importsClear file rs) .0 c .1) k
+
+-- one page is the page of its bytes
+page-excused : (i : IsolationType) (r : MemoryRange) → PagedRange r → isTdx i ≡ true → 2 ^ 32 - pageSize ≤ r .start → r .end ≤ 2 ^ 32
+    → isExcused i r ≡ true
+page-excused i r p t low high = rw (t, eq-eqb (r .start) (2 ^ 32 - pageSize) (omega arith), eq-eqb (r .end) (2 ^ 32) (omega arith))
+
+module _ (i : IsolationType) (file : MemoryRange) (imports : List MemoryRange) (m : List TaggedRange) (oi : Ordered 0 imports) (om : Ordered 0 (rangesIn m))
+    (clear : importsClear file imports ≡ true) (allowed : (a : ℕ) → 0 < holders imports a → MayBeImported i file (rangesIn m) a) where
+  -- a piece of imported ranges of which each byte may be imported is not refused
+  piece-kept : (p : WalkPiece) → PagedRange (p .range) → Says imports (rangesIn m) p → NotRefused (importVerdict i file imports m (p .range) (p .result))
+  piece-kept p page says = go (p .result) says
+    where
+      r : MemoryRange
+      r = p .range
+
+      go : (h : RangeWalkResult)
+          → ((a : ℕ) → holds r a ≡ true → (leftItem h ≡ itemAt imports a) × (rightItem h ≡ itemAt (rangesIn m) a))
+          → NotRefused (importVerdict i file imports m r h)
+      go (Right j) q = tt
+      go (Both k j) q = tt
+      go (Left k) q = rw (by (containsRange file s) refl) tt
+        where
+          s : MemoryRange
+          s = getD imports k (range 0 0)
+
+          excused : containsRange file s ≡ false → (a : ℕ) → holds r a ≡ true → (isTdx i ≡ true) × (2 ^ 32 - pageSize ≤ a) × (a < 2 ^ 32)
+          excused c a h =
+              let u = q a h in
+              let one = holders-items 0 0 imports a oi ∙ ap counted (sym (u .0)) in
+              let none = holders-items 0 0 (rangesIn m) a om ∙ ap counted (sym (u .1)) in
+              let outside : (holds file a ≡ true → ⊥) =
+              λ f. let o = overlap-byte file s .1 (a, f, item-holds imports a k (range 0 0) (sym (u .0))) in
+              true≢false (sym (rw (o, c) at (clear-at file imports clear k))) in
+              ⊎-elim (λ f. absurd (outside f)) (λ x. ⊎-elim (λ f. absurd (omega arith)) (λ f. f) x) (allowed a (omega arith))
+
+          by : (t : Bool) → containsRange file s ≡ t → (t || isExcused i r) ≡ true
+          by true c = refl
+          by false c =
+              let low = excused c (r .start) (held r (r .start) .1 (omega arith, page .0)) in
+              let high = excused c (r .end - 1) (held r (r .end - 1) .1 (omega arith, omega arith)) in
+              page-excused i r page (low .0) (low .1) (omega arith)
+
+-- a walk is refused as not in the map only at a piece in an imported range alone
+module _ (i : IsolationType) (file : MemoryRange) (imports : List MemoryRange) (m : List TaggedRange) where
+  verdicts-all : (P : Verdict → Type 0) (ps : List WalkPiece) → All (λ p. P (importVerdict i file imports m (p .range) (p .result))) ps
+      → All P (importVerdicts i file imports m ps)
+  verdicts-all P [] h = tt
+  verdicts-all P (p ∷ ps) h = (h .0, verdicts-all P ps (h .1))
+
+  refuses-as : (r : MemoryRange) (h : RangeWalkResult) → RefusesAs importNotInMap (importVerdict i file imports m r h)
+  refuses-as r (Left k) = go (isSkipped i file (getD imports k (range 0 0)) r)
+    where
+      go : (t : Bool) → RefusesAs importNotInMap (cond t pass (refuse importNotInMap))
+      go true = tt
+      go false = refl
+  refuses-as r (Right j) = tt
+  refuses-as r (Both k j) = tt
+
+  -- why an import walk is refused, where the imported ranges are clear of the file
+  pub import-told : Ordered 0 imports → Ordered 0 (rangesIn m) → All AtPages imports → Paged m
+      → importsClear file imports ≡ true → {n : ℕ} → importWalk i file imports m .refusal ≡ some n
+      → ((n ≡ importNotInMap) × (((a : ℕ) → 0 < holders imports a → MayBeImported i file (rangesIn m) a) → ⊥))
+      ⊎ ((n ≡ tooManyPieces) × (Fits 0 0 (importVerdicts i file imports m (walk imports (rangesIn m))) → ⊥))
+  unfolding importWalk
+  import-told oi om pi pm clear e =
+      let ps = walk imports (rangesIn m) in
+      let each = walk-each imports (rangesIn m) oi om in
+      let pages = walk-ends AtPage imports (rangesIn m) (paged-ends imports pi) (paged-boundaries m pm) in
+      let numbers = all-map (λ p s. refuses-as (p .range) (p .result)) ps each in
+      ⊎-elim
+      (λ t. inl (
+        t .0,
+        λ allowed. t .1 (verdicts-all NotRefused ps
+            (all-map (λ p s. piece-kept i file imports m oi om clear allowed p (s .0 .0, s .1 .0, s .1 .1) (s .0 .1)) ps (all-both _ _ ps each pages))),
+      ))
+      inr
+      (judged-told importNotInMap 0 0 (importVerdicts i file imports m ps) (verdicts-all (RefusesAs importNotInMap) ps numbers) e)
 
 module _ (i : IsolationType) (file : MemoryRange) (imports : List MemoryRange) (m : List TaggedRange)
     (accepted : importWalk i file imports m .refusal ≡ none) (oi : Ordered 0 imports) (om : Ordered 0 (rangesIn m)) where
@@ -107,29 +195,32 @@ module _ (i : IsolationType) (file : MemoryRange) (imports : List MemoryRange) (
   pub import-free : (n a : ℕ) → holdersOn n (importWalk i file imports m .free) a ≡ cond (eqb (holders imports a) 0) (holdersOn n m a) 0
   import-free n a = rw (ranges-on n (importWalk i file imports m .free), ranges-on n m) (free-for (isNode n) a)
 
+  -- they are no more than can be held
+  pub import-fits : Fits 0 0 (importVerdicts i file imports m (walk imports (rangesIn m)))
+  unfolding importWalk
+  import-fits = accepted-fits 0 0 (importVerdicts i file imports m (walk imports (rangesIn m))) (omega arith) (omega arith) accepted
+
   -- they are nonempty, ascending and disjoint
   pub import-free-ordered : Ordered 0 (rangesIn (importWalk i file imports m .free))
   import-free-ordered = rw free-is (kept-ordered imports m oi om rightOnly)
 
   -- and start and end at pages
-  pub import-paged : All (λ r. (r .start % 4096 ≡ 0) × (r .end % 4096 ≡ 0)) imports → Paged m → Paged (importWalk i file imports m .free)
+  pub import-paged : All AtPages imports → Paged m → Paged (importWalk i file imports m .free)
   import-paged pi pm = rw free-is (kept-paged imports m oi om rightOnly (paged-ends imports pi) pm)
 
   -- each imported byte lies in the file, in a free piece, or, under Tdx, in the page below 4 GiB
-  pub import-in-map : (a : ℕ) → 0 < holders imports a
-      → (holds file a ≡ true) ⊎ ((0 < holders (rangesIn m) a) ⊎ ((isTdx i ≡ true) × (2 ^ 32 - pageSize ≤ a) × (a < 2 ^ 32)))
+  pub import-in-map : (a : ℕ) → 0 < holders imports a → MayBeImported i file (rangesIn m) a
   unfolding importWalk
   import-in-map a h =
       go (itemAt imports a) refl (holders-items 0 0 imports a oi) (itemAt (rangesIn m) a) (holders-items 0 0 (rangesIn m) a om)
       (walk-at imports (rangesIn m) oi om a)
     where
       go : (u : Option ℕ) → itemAt imports a ≡ u → holders imports a ≡ counted u → (v : Option ℕ) → holders (rangesIn m) a ≡ counted v
-          → resultAt (walk imports (rangesIn m)) a ≡ heldBy u v
-          → (holds file a ≡ true) ⊎ ((0 < holders (rangesIn m) a) ⊎ ((isTdx i ≡ true) × (2 ^ 32 - pageSize ≤ a) × (a < 2 ^ 32)))
+          → resultAt (walk imports (rangesIn m)) a ≡ heldBy u v → MayBeImported i file (rangesIn m) a
       go none p c v d e = absurd (omega arith)
       go (some k) p c (some j) d e = inr (inl (omega arith))
       go (some k) p c none d e =
           let none-refused = accepted-none-refused 0 0 (importVerdicts i file imports m (walk imports (rangesIn m))) accepted in
           let s = alone-skipped i file imports m (walk imports (rangesIn m)) a k none-refused e in
-          ⊎-elim inl (λ x. inr (inr x))
+          ⊎-elim inl (λ q. inr (⊎-elim (λ z. absurd (omega arith)) inr q))
           (skipped-byte i file imports m (getD imports k (range 0 0)) (s .0) a (item-holds imports a k (range 0 0) p) (s .1) (s .2))

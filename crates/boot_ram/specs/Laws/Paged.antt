@@ -14,6 +14,10 @@ pub all-paged : (rs : List MemoryRange) → allValid rs ≡ true → All PagedRa
 all-paged [] v = tt
 all-paged (r ∷ rs) v = let both = and-eq-true-iff (validRange r) (allValid rs) .0 v in (valid-parts r (both .0), all-paged rs (both .1))
 
+pub paged-all : (rs : List MemoryRange) → All PagedRange rs → allValid rs ≡ true
+paged-all [] p = refl
+paged-all (r ∷ rs) p = let q = p .0 in rw (valid-range r (q .0) (q .1) (q .2)) (paged-all rs (p .1))
+
 pub entries-paged : (xs : List TaggedRange) → allValid (rangesIn xs) ≡ true → Paged xs
 entries-paged [] v = tt
 entries-paged (x ∷ xs) v =

@@ -1,7 +1,7 @@
 -- What the file walk and the import walk share: some pieces of a walk are kept as entries, with the nodes of
 -- the items of the right list that they lie in. The laws tell which bytes the kept entries hold, of one node
 -- or of all, that they are in order, and that they start and end at pages.
-use Prim.Native.Nat.{ℕ, suc, _+_}
+use Prim.Native.Nat.{ℕ, suc, _+_, _<_}
 use mathlib.Core.Path.{_≡_, refl, ap, sym, _∙_}
 use mathlib.Core.Bool.{Bool, true, false, cond}
 use mathlib.Core.List.{List, [], _∷_}
@@ -19,11 +19,11 @@ use Rattle.memory_range.specs.Bytes.{holders, itemFrom, itemAt, Ordered, All}
 use Rattle.memory_range.specs.List.{rangesIn, tagsOf}
 use Rattle.memory_range.specs.Range.{holds}
 use Rattle.range_lists.specs.Walk.{boundaries, heldBy, walk}
-use Rattle.memory_range.specs.Laws.Bytes.{counted, ordered-before, ordered-below, holders-items}
+use Rattle.memory_range.specs.Laws.Bytes.{counted, ordered-before, ordered-below, holders-items, all-both}
 use Rattle.range_lists.specs.Laws.Pieces.{pieceRanges}
 use Rattle.memory_range.specs.Laws.Range.{held}
 use Rattle.range_lists.specs.Laws.Picked.{picked, countedIf, walk-picked, picked-ordered}
-use Rattle.range_lists.specs.Laws.Walk.{walk-ordered, walk-ends}
+use Rattle.range_lists.specs.Laws.Walk.{Says, walk-ordered, walk-ends, walk-says}
 use Rattle.boot_ram.specs.File.{onNodeOf}
 use Rattle.boot_ram.specs.Held.{AtPage, PagedRange, Paged, onNode}
 
@@ -143,9 +143,18 @@ pieces-paged : (a : ℕ) (ps : List WalkPiece) → Ordered a (pieceRanges ps) �
 pieces-paged a [] o h = tt
 pieces-paged a (p ∷ ps) o h = ((o .1 .0, h .0 .0, h .0 .1), pieces-paged (p .range .end) ps (o .1 .1) (h .1))
 
-paged-boundaries : (m : List TaggedRange) → Paged m → All AtPage (boundaries (rangesIn m))
+pub paged-boundaries : (m : List TaggedRange) → Paged m → All AtPage (boundaries (rangesIn m))
 paged-boundaries [] h = tt
 paged-boundaries (x ∷ xs) h = (h .0 .1, (h .0 .2, paged-boundaries xs (h .1)))
+
+-- pieces in order have a byte each
+pieces-full : (a : ℕ) (ps : List WalkPiece) → Ordered a (pieceRanges ps) → All (λ p. p .range .start < p .range .end) ps
+pieces-full a [] o = tt
+pieces-full a (p ∷ ps) o = (o .1 .0, pieces-full (p .range .end) ps (o .1 .1))
+
+-- each piece of a walk has a byte, and says of its bytes which items hold them
+pub walk-each : (ls rs : List MemoryRange) → Ordered 0 ls → Ordered 0 rs → All (λ p. (p .range .start < p .range .end) × Says ls rs p) (walk ls rs)
+walk-each ls rs ol or = all-both _ (Says ls rs) (walk ls rs) (pieces-full 0 (walk ls rs) (walk-ordered ls rs ol or)) (walk-says ls rs ol or)
 
 module _ (ls : List MemoryRange) (m : List TaggedRange) (ol : Ordered 0 ls) (om : Ordered 0 (rangesIn m)) where
   items : (t : ℕ → Bool) (a : ℕ) → holders (rangesFor t m) a ≡ countedIf (byNode t m) (itemAt (rangesIn m) a)

@@ -1,14 +1,16 @@
 -- What an accepted taking gives each node: as many bytes as it needs, and less than one step of 32,768 bytes more;
 -- from the node's own free entries, no byte twice; in whole pages. A node that is not asked for gets nothing.
+-- And a taking that is refused has a node whose free bytes are below its need, or too many pieces.
 -- Each is shown of the taking of one need from a list of entries first.
 use Prim.Native.Nat.{ℕ, _+_, _-_, _%_, _≤_, _<_}
 use mathlib.Core.Path.{_≡_, refl, sym, _∙_}
-use mathlib.Core.Bool.{Bool, true, false, cond, true≢false, and-false}
+use mathlib.Core.Bool.{Bool, true, false, cond, true≢false, and-false, or-true}
+use mathlib.Core.Logic.{_⊎_, inl, inr, ⊎-elim}
 use mathlib.Core.List.{List, [], _∷_, _++_, reverse, append-nil}
-use mathlib.Core.Option.{none}
+use mathlib.Core.Option.{none, some}
 use native.Mathlib.Decide.{decLe}
 use native.Mathlib.Omega.{arith}
-use borrow.Author.Tests.{eqb-true, eqb-false, le-ltb, lt-leb}
+use borrow.Author.Tests.{eqb-true, eqb-false, eq-eqb, le-ltb, lt-leb}
 use lib.Dec.{eqb}
 use lib.ListN.{length}
 use Rattle.memory_range.specs.List.{rangesIn}
@@ -19,14 +21,15 @@ use Rattle.memory_range.specs.Bytes.{holders, All}
 use Rattle.memory_range.specs.Laws.Bytes.{Place, below, inside, above, place}
 use Rattle.range_lists.specs.Laws.Node.{AscendsFrom, has, not-before}
 use Rattle.memory_range.specs.Laws.Round.{down-below, down-near}
-use Rattle.boot_ram.specs.Held.{holdersOn, chosenIn, Paged, onNode, bytesOf}
+use Rattle.boot_ram.specs.Held.{holdersOn, chosenIn, Fits, Paged, onNode, bytesOf}
 use Rattle.boot_nodes.specs.Share.{shareStep}
 use Rattle.boot_take.specs.Take.{takenStart, takenOf, needOn, takeFrom, takeOn, takeAll, taking}
-use Rattle.boot_ram.specs.Verdict.{Verdict, choose, refuse}
-use Rattle.boot_ram.specs.Laws.Judged.{NotRefused, judged-accepted, accepted-none-refused, chosen-append}
+use Rattle.boot_ram.specs.Verdict.{Verdict, choose, refuse, maxChosen}
+use Rattle.boot_ram.specs.Laws.Judged.{NotRefused, RefusesAs, judged-accepted, accepted-none-refused, accepted-fits, judged-told, chosen-append}
 use Rattle.memory_range.specs.Laws.Bytes.{all-append, all-split, all-reverse}
 use Rattle.boot_ram.specs.Laws.OnNode.{all-on, on-append, on-same, on-other, holders-reverse}
-use Rattle.refusal.specs.Number.{nodeTooSmall}
+use Rattle.memory_range.specs.Laws.Count.{bytes-same}
+use Rattle.refusal.specs.Number.{nodeTooSmall, tooManyPieces}
 
 -- the bytes taken meet a need: they are as many, or less than one step more, and none where there is no need
 abbrev pub Meets : ℕ → ℕ → Type 0
@@ -75,7 +78,7 @@ by-end P n need met short = go (eqb need 0) refl
 
 -- a need is met by a piece and by what meets the rest of the need
 meets-more : (need t b : ℕ) → 0 < need → t < need + shareStep → Meets (need - t) b → Meets need (t + b)
-meets-more need t b some near m = (omega arith, (λ z. absurd (omega arith)), go (decLe need t))
+meets-more need t b lack near m = (omega arith, (λ z. absurd (omega arith)), go (decLe need t))
   where
     go : Dec (need ≤ t) → t + b < need + shareStep
     go (yes h) = omega (arith, m .1 (omega arith))
@@ -87,19 +90,19 @@ take-meets n need [] =
     by-end (λ vs. All NotRefused vs → Meets need (bytesOf (chosenIn vs))) n need (λ z h. (omega arith, (λ _. refl), omega arith)) (λ h. absurd (h .0))
 take-meets n need (e ∷ es) =
     by-need (λ vs. All NotRefused vs → Meets need (bytesOf (chosenIn vs))) n need e es (λ z h. (omega arith, (λ _. refl), omega arith))
-    (λ some h. meets-more need _ _ some (taken-near need (e .range)) (take-meets n (restOf need e) es (h .1)))
+    (λ lack h. meets-more need _ _ lack (taken-near need (e .range)) (take-meets n (restOf need e) es (h .1)))
 
 pub take-held : (n need : ℕ) (es : List TaggedRange) (a : ℕ) → holders (rangesIn (chosenIn (takeFrom n need es))) a ≤ holders (rangesIn es) a
 take-held n need [] a = by-end (λ vs. holders (rangesIn (chosenIn vs)) a ≤ 0) n need (λ z. omega arith) (omega arith)
 take-held n need (e ∷ es) a =
     by-need (λ vs. holders (rangesIn (chosenIn vs)) a ≤ holders (rangesIn (e ∷ es)) a) n need e es (λ z. omega arith)
-    (λ some. omega (arith, taken-held need (e .range) a, take-held n (restOf need e) es a))
+    (λ lack. omega (arith, taken-held need (e .range) a, take-held n (restOf need e) es a))
 
 pub take-paged : (n need : ℕ) (es : List TaggedRange) → Paged es → Paged (chosenIn (takeFrom n need es))
 take-paged n need [] h = by-end (λ vs. Paged (chosenIn vs)) n need (λ z. tt) tt
 take-paged n need (e ∷ es) h =
     by-need (λ vs. Paged (chosenIn vs)) n need e es (λ z. tt)
-    (λ some. (
+    (λ lack. (
       (omega (arith, down-below shareStep (e .range .end - need) (omega arith)), taken-page need (e .range) (h .0 .1), h .0 .2),
       take-paged n (restOf need e) es (h .1),
     ))
@@ -109,7 +112,19 @@ take-tags : (n need : ℕ) (es : List TaggedRange) → All (λ x. x .tag ≡ n) 
 take-tags n need [] = by-end (λ vs. All (λ x. x .tag ≡ n) (chosenIn vs)) n need (λ z. tt) tt
 take-tags n need (e ∷ es) =
     by-need (λ vs. All (λ x. x .tag ≡ n) (chosenIn vs)) n need e es (λ z. tt)
-    (λ some. (refl, take-tags n (restOf need e) es))
+    (λ lack. (refl, take-tags n (restOf need e) es))
+
+-- entries that have the bytes of a need meet it
+enough-kept : (n need : ℕ) (es : List TaggedRange) → need ≤ bytesOf es → All NotRefused (takeFrom n need es)
+enough-kept n need [] h = rw (eq-eqb need 0 (omega arith)) tt
+enough-kept n need (e ∷ es) h =
+    by-need (All NotRefused) n need e es (λ z. tt)
+    (λ lack. (tt, enough-kept n (restOf need e) es (omega (arith, down-below shareStep (e .range .end - need) (omega arith)))))
+
+take-refuses : (n need : ℕ) (es : List TaggedRange) → All (RefusesAs nodeTooSmall) (takeFrom n need es)
+take-refuses n need [] = by-end (All (RefusesAs nodeTooSmall)) n need (λ z. tt) (refl, tt)
+take-refuses n need (e ∷ es) =
+    by-need (All (RefusesAs nodeTooSmall)) n need e es (λ z. tt) (λ lack. (tt, take-refuses n (restOf need e) es))
 
 module _ (share : ℕ) (pieces free : List TaggedRange) where
   -- the verdicts of one node, and the pieces of all nodes
@@ -164,6 +179,33 @@ module _ (share : ℕ) (pieces free : List TaggedRange) where
       let own = take-paged m (needOn share pieces m) (onNode m (reverse free)) (all-on _ m (reverse free) (all-reverse _ free h)) in
       rw (chosen-append (ofNode m) (takeAll share pieces free ns)) (all-append _ (chosenIn (ofNode m)) (ofAll ns) own (all-paged h ns))
 
+  -- nodes whose free bytes are not below their need are not refused
+  abbrev pub Enough : List ℕ → Type 0
+  Enough ns = (n : ℕ) → has n ns ≡ true → needOn share pieces n ≤ bytesOf (onNode n free)
+
+  all-kept : (ns : List ℕ) → Enough ns → All NotRefused (takeAll share pieces free ns)
+  all-kept [] h = tt
+  all-kept (m ∷ ns) h =
+      let same = bytes-same (rangesIn (onNode m (reverse free))) (rangesIn (onNode m free)) (λ a. holders-reverse m free a) in
+      let here = h m (rw (eq-eqb m m refl)) in
+      all-append NotRefused (ofNode m) (takeAll share pieces free ns)
+      (enough-kept m (needOn share pieces m) (onNode m (reverse free)) (omega (arith, same, here)))
+      (all-kept ns (λ n q. h n (rw (q, or-true))))
+
+  all-refuses : (ns : List ℕ) → All (RefusesAs nodeTooSmall) (takeAll share pieces free ns)
+  all-refuses [] = tt
+  all-refuses (m ∷ ns) =
+      all-append (RefusesAs nodeTooSmall) (ofNode m) (takeAll share pieces free ns)
+      (take-refuses m (needOn share pieces m) (onNode m (reverse free))) (all-refuses ns)
+
+  -- why a taking is refused
+  pub taking-told : (nodes : List ℕ) {n : ℕ} → taking share pieces free nodes .refusal ≡ some n
+      → ((n ≡ nodeTooSmall) × (Enough nodes → ⊥)) ⊎ ((n ≡ tooManyPieces) × (Fits 0 (length pieces) (takeAll share pieces free nodes) → ⊥))
+  unfolding taking
+  taking-told nodes e =
+      ⊎-elim (λ t. inl (t .0, λ h. t .1 (all-kept nodes h))) inr
+      (judged-told nodeTooSmall 0 (length pieces) (takeAll share pieces free nodes) (all-refuses nodes) e)
+
   module _ (nodes : List ℕ) (accepted : taking share pieces free nodes .refusal ≡ none) where
     chosen-all : taking share pieces free nodes .chosen ≡ ofAll nodes
     unfolding taking
@@ -172,6 +214,11 @@ module _ (share : ℕ) (pieces free : List TaggedRange) where
     none-refused : All NotRefused (takeAll share pieces free nodes)
     unfolding taking
     none-refused = accepted-none-refused 0 (length pieces) (takeAll share pieces free nodes) accepted
+
+    -- the pieces, with those that are held already, are no more than can be held
+    pub taking-fits : length pieces ≤ maxChosen → Fits 0 (length pieces) (takeAll share pieces free nodes)
+    unfolding taking
+    taking-fits h = accepted-fits 0 (length pieces) (takeAll share pieces free nodes) (omega arith) h accepted
 
     -- each node's need is met
     pub taking-bytes : (k : ℕ) → AscendsFrom k nodes → (n : ℕ) → has n nodes ≡ true

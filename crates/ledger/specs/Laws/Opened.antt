@@ -13,7 +13,7 @@ use Rattle.memory_range.specs.declared.range.MemoryRange.{MemoryRange}
 use Rattle.memory_range.specs.declared.range.TaggedRange.{TaggedRange}
 use Rattle.memory_range.specs.Bytes.{holders, Ordered, All}
 use Rattle.memory_range.specs.List.{rangesIn}
-use Rattle.memory_range.specs.Laws.Bytes.{ordered-below, ordered-once, counted, all-map}
+use Rattle.memory_range.specs.Laws.Bytes.{ordered-below, ordered-once, counted, all-map, all-both}
 use Rattle.memory_range.specs.Laws.Range.{held, contained}
 use Rattle.memory_range.specs.Laws.Valid.{valid-parts}
 use Rattle.range_lists.specs.Walk.{boundaries, walk}
@@ -136,10 +136,6 @@ held-edges P b (r ∷ rs) o f =
     let low = f s (rw (held r s .1 (omega arith, o .1 .0)) (omega arith)) .0 in
     let high = f l (rw (held r l .1 (omega arith, omega arith)) (omega arith)) .1 in
     (low, (rw ends at high, held-edges P (r .end) rs (o .1 .1) (λ a h. f a (omega arith))))
-
-all-both : {A : Type 0} (P Q : A → Type 0) (xs : List A) → All P xs → All Q xs → All (λ x. P x × Q x) xs
-all-both P Q [] h g = tt
-all-both P Q (x ∷ xs) h g = ((h .0, g .0), all-both P Q xs (h .1) (g .1))
 
 all-at : (P : MemoryRange → Type 0) (es : List AddressRange) → All P (rangesAt es) → All (λ e. P (e .range)) es
 all-at P [] h = tt

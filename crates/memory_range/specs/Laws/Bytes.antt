@@ -88,6 +88,10 @@ pub all-map : {A : Type 0} {P Q : A → Type 0} → ((x : A) → P x → Q x) �
 all-map f [] h = tt
 all-map f (x ∷ xs) h = (f x (h .0), all-map f xs (h .1))
 
+pub all-both : {A : Type 0} (P Q : A → Type 0) (l : List A) → All P l → All Q l → All (λ x. P x × Q x) l
+all-both P Q [] h g = tt
+all-both P Q (x ∷ xs) h g = ((h .0, g .0), all-both P Q xs (h .1) (g .1))
+
 -- what holds of every element, in lists that are joined, cut in two or reversed
 module _ {A : Type 0} (P : A → Type 0) where
   pub all-append : (xs ys : List A) → All P xs → All P ys → All P (xs ++ ys)

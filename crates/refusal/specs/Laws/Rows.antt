@@ -1,9 +1,9 @@
--- What a row that does not refuse shows, and how rows are passed over.
+-- What a row that does not refuse shows, how rows are passed over, and which one a number comes from.
 use Prim.Native.Nat.{ℕ}
 use mathlib.Core.Path.{_≡_, refl}
 use mathlib.Core.Bool.{Bool, true, false}
 use mathlib.Core.List.{List, [], _∷_}
-use mathlib.Core.Option.{Option, none, some, Option·some-ne-none}
+use mathlib.Core.Option.{Option, none, some, Option·some-ne-none, Option·some-injective, Option·none-ne-some}
 use Rattle.refusal.specs.Rows.{refusedIf, downward}
 
 -- a rule that does not refuse is kept
@@ -20,6 +20,18 @@ downward-none (some n) us e = absurd (Option·some-ne-none n e)
 pub first-kept : (broken : Bool) (n : ℕ) (rows : List (Option ℕ)) → downward (refusedIf broken n ∷ rows) ≡ none → (broken ≡ false) × (downward rows ≡ none)
 first-kept false n rows e = (refl, e)
 first-kept true n rows e = absurd (Option·some-ne-none n e)
+
+-- a rule that refuses is broken: what is shown of its number then holds of the number that is told
+pub rule-told : (P : ℕ → Type 0) (broken : Bool) (k : ℕ) {n : ℕ} → (broken ≡ true → P k) → refusedIf broken k ≡ some n → P n
+rule-told P true k here e = rw (Option·some-injective k _ e) at (here refl)
+rule-told P false k here e = absurd (Option·none-ne-some _ e)
+
+-- what is shown of the first row's number, where its rule is broken, and of whatever those below it tell, holds of the
+-- number that is told
+pub told-in-turn : (P : ℕ → Type 0) (broken : Bool) (k : ℕ) (rows : List (Option ℕ)) {n : ℕ} → (broken ≡ true → P k)
+    → (broken ≡ false → downward rows ≡ some n → P n) → downward (refusedIf broken k ∷ rows) ≡ some n → P n
+told-in-turn P true k rows here below e = rule-told P true k here e
+told-in-turn P false k rows here below e = below refl e
 
 -- the last row alone
 pub downward-last : (row : Option ℕ) → downward (row ∷ []) ≡ row

@@ -4,12 +4,13 @@ use Prim.Native.Nat.{ℕ, _+_, _-_, _≤_, _<_}
 use mathlib.Core.Path.{_≡_, refl, sym, _∙_}
 use mathlib.Core.Bool.{Bool, true, false, cond}
 use mathlib.Core.List.{List, [], _∷_, _++_}
+use mathlib.Core.Option.{none}
 use native.Mathlib.Decide.{decLe}
 use native.Mathlib.Omega.{arith}
 use lib.Dec.{eqb}
 use Rattle.memory_range.specs.declared.range.MemoryRange.{MemoryRange}
 use Rattle.memory_range.specs.declared.range.TaggedRange.{TaggedRange}
-use Rattle.memory_range.specs.Bytes.{holders, byteCount}
+use Rattle.memory_range.specs.Bytes.{holders, byteCount, Ordered}
 use Rattle.memory_range.specs.List.{rangesIn, tagsOf}
 use Rattle.memory_range.specs.Range.{holds, lengthOf}
 use Rattle.memory_range.specs.Laws.Bytes.{Place, below, inside, above, place}
@@ -87,18 +88,17 @@ common-held file n (x ∷ xs) a = go (eqb (x .tag) n) (holds file a) (common-hel
     go false true e c = e
     go false false e c = e
 
+-- the file's pieces on a node have the file's bytes in its map entries
+pub file-bytes : (file : MemoryRange) (map : List TaggedRange) → fileWalk file map .refusal ≡ none → file .start < file .end → Ordered 0 (rangesIn map)
+    → (n : ℕ) → bytesOf (onNode n (fileWalk file map .chosen)) ≡ fileBytesOn file map n
+file-bytes file map walked full om n =
+    bytes-same (rangesIn (onNode n (fileWalk file map .chosen))) (commonOn file n map)
+    (λ a. file-chosen file map walked full om n a ∙ sym (common-held file n map a))
+    ∙ common-bytes file n map
+
 module _ (isolation : IsolationType) (file : MemoryRange) (map : List TaggedRange) (imports : List MemoryRange) (share : ℕ) (nodes : List ℕ)
     (ram : List TaggedRange) (rows : RowsPassed file map imports) (accepted : Accepted isolation file map imports share nodes ram)
     (ascends : AscendsFrom 0 nodes) where
-  -- the file's pieces on a node have the file's bytes in its map entries
-  file-bytes : (n : ℕ) → bytesOf (onNode n (fileWalk file map .chosen)) ≡ fileBytesOn file map n
-  file-bytes n =
-      bytes-same (rangesIn (onNode n (fileWalk file map .chosen))) (commonOn file n map)
-      (λ a. file-chosen file map (accepted .file-walked) (file-full isolation file map imports share nodes ram rows accepted ascends)
-      (map-ordered isolation file map imports share nodes ram rows accepted ascends) n a
-      ∙ sym (common-held file n map a))
-      ∙ common-bytes file n map
-
   -- with need = share - file bytes, what is taken is at least need and below need + 32,768, and nothing where need is 0
   parts-due : (n : ℕ) → has n nodes ≡ true
       → (dueOn share file map n ≤ bytesOf (onNode n ram)) × (bytesOf (onNode n ram) < dueOn share file map n + shareStep)
@@ -107,7 +107,9 @@ module _ (isolation : IsolationType) (file : MemoryRange) (map : List TaggedRang
       let free = importWalk isolation file imports (fileWalk file map .free) .free in
       let took = taking share pieces free nodes .chosen in
       let meets = taking-bytes share pieces free nodes (accepted .taken) 0 ascends n member in
-      let filed = file-bytes n in
+      let filed =
+      file-bytes file map (accepted .file-walked) (file-full isolation file map imports share nodes ram rows accepted ascends)
+      (map-ordered isolation file map imports share nodes ram rows accepted ascends) n in
       let all = sort-bytes-on n (pieces ++ took) in
       let joined = bytes-join (onNode n pieces) (onNode n took) in
       let ram-bytes : bytesOf (onNode n ram) ≡ bytesOf (onNode n pieces) + bytesOf (onNode n took) =

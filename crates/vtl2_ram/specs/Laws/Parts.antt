@@ -1,14 +1,14 @@
 -- What boot selection's parts come to where none refuses: by node and byte, what the chosen entries hold; that
 -- they are in order; and that they are at most 64.
-use Prim.Native.Nat.{ℕ, _+_, _-_, _^_, _≤_, _<_}
+use Prim.Native.Nat.{ℕ, _+_, _≤_, _<_}
 use mathlib.Core.Path.{_≡_, refl, sym, ap, _∙_}
 use mathlib.Core.Bool.{Bool, true, false, cond, not}
 use mathlib.Core.List.{List, [], _∷_, _++_}
 use mathlib.Core.Option.{Option, none, some, Option·some-ne-none}
-use mathlib.Core.Logic.{_⊎_, inl, inr, ⊎-elim}
+use mathlib.Core.Logic.{inl, inr, ⊎-elim}
 use native.Mathlib.Omega.{arith}
 use lib.Dec.{eqb}
-use borrow.Author.Tests.{ne-eqb}
+use borrow.Author.Tests.{ne-eqb, not-false}
 use lib.ListN.{length, length-append}
 use Rattle.memory_range.specs.declared.range.MemoryRange.{MemoryRange}
 use Rattle.memory_range.specs.declared.range.TaggedRange.{TaggedRange}
@@ -19,17 +19,16 @@ use Rattle.range_lists.specs.Sort.{sortByStart}
 use Rattle.memory_range.specs.Laws.Bytes.{ordered-once, all-map}
 use Rattle.range_lists.specs.Laws.Node.{AscendsFrom}
 use Rattle.range_lists.specs.Laws.Sort.{sort-ordered, sort-all, sort-holders, sort-length}
-use Rattle.memory_range.specs.Valid.{pageSize}
 use Rattle.memory_range.specs.Laws.Valid.{valid-parts, valid-ordered}
 use Rattle.host_params.specs.declared.IsolationType.{IsolationType}
 use Rattle.boot_ram.specs.File.{fileWalk}
-use Rattle.boot_ram.specs.Held.{holdersOn, AtPage, PagedRange, Paged}
-use Rattle.boot_ram.specs.Import.{importsClear, isTdx, importWalk}
+use Rattle.boot_ram.specs.Held.{holdersOn, PagedRange, Paged}
+use Rattle.boot_ram.specs.Import.{importsClear, MayBeImported, importWalk}
 use Rattle.boot_nodes.specs.Node.{countUp}
 use Rattle.boot_take.specs.Take.{taking}
 use Rattle.boot_ram.specs.Verdict.{Judged, maxChosen}
 use Rattle.boot_ram.specs.Laws.File.{file-chosen, file-free, file-in-map, file-free-ordered, file-paged}
-use Rattle.boot_ram.specs.Laws.Import.{import-free, import-in-map, import-paged}
+use Rattle.boot_ram.specs.Laws.Import.{AtPages, import-free, import-in-map, import-paged}
 use Rattle.boot_take.specs.Laws.Bounds.{file-bounds, taking-bounds}
 use Rattle.boot_ram.specs.Laws.ByNode.{sort-holders-on, by-nodes}
 use Rattle.boot_nodes.specs.Laws.Node.{count-ascends}
@@ -39,7 +38,7 @@ use Rattle.boot_ram.specs.Laws.Paged.{all-paged, entries-paged}
 use Rattle.boot_take.specs.Laws.Taking.{taking-held, taking-paged}
 use Rattle.refusal.specs.Number.{importCrossesFile}
 use Rattle.refusal.specs.Rows.{refusedIf, downward}
-use Rattle.refusal.specs.Laws.Rows.{downward-none}
+use Rattle.refusal.specs.Laws.Rows.{not-refused, downward-none}
 use Rattle.vtl2_ram.specs.Boot.{nextUnless, andThen, afterImports, besideFile, bootParts, RowsPassed}
 use Rattle.vtl2_ram.specs.Choice.{Choice, refused, chosen, entriesOf}
 use Rattle.vtl2_ram.specs.Laws.Choice.{unless-chosen}
@@ -53,6 +52,7 @@ next-none (some n) next e = absurd (Option·some-ne-none n e)
 pub record Accepted (isolation : IsolationType) (file : MemoryRange) (map : List TaggedRange) (imports : List MemoryRange) (share : ℕ)
     (nodes : List ℕ) (ram : List TaggedRange) : Type 0 where
   pub file-walked : fileWalk file map .refusal ≡ none
+  pub clear : importsClear file imports ≡ true
   pub imports-walked : importWalk isolation file imports (fileWalk file map .free) .refusal ≡ none
   pub taken :
       taking share (fileWalk file map .chosen) (importWalk isolation file imports (fileWalk file map .free) .free) nodes .refusal ≡ none
@@ -86,6 +86,7 @@ module _ (isolation : IsolationType) (file : MemoryRange) (map : List TaggedRang
       let fourth = next-none (freed .refusal) took (third .0) in
       record {
         file-walked = first .0;
+        clear = not-false _ (not-refused (not (importsClear file imports)) importCrossesFile (second .0));
         imports-walked = fourth .0;
         taken = rw (fourth .1) at (third .0);
         sorted = sym (rw (fourth .1) at (ap entriesOf (all .1)));
@@ -105,7 +106,7 @@ module _ (isolation : IsolationType) (file : MemoryRange) (map : List TaggedRang
     unsorted = filed .chosen ++ took .chosen
 
     -- what is taken on a node lies in its map entries, outside the file and the imported ranges
-    taken-within : (n a : ℕ) → holdersOn n (took .chosen) a ≤ cond (eqb (holders imports a) 0) (cond (holds file a) 0 (holdersOn n map a)) 0
+    pub taken-within : (n a : ℕ) → holdersOn n (took .chosen) a ≤ cond (eqb (holders imports a) 0) (cond (holds file a) 0 (holdersOn n map a)) 0
     taken-within n a =
         let free-ordered = file-free-ordered file map (accepted .file-walked) file-full map-ordered in
         rw (
@@ -149,9 +150,8 @@ module _ (isolation : IsolationType) (file : MemoryRange) (map : List TaggedRang
         none-taken : (n : ℕ) → holdersOn n (took .chosen) a ≤ 0
         none-taken n = rw (ne-eqb (holders imports a) 0 (λ e. omega arith)) at (taken-within n a)
 
-    -- each imported byte lies in the file, in the map, or, under Tdx, in the page below 4 GiB: row 12 in other words
-    pub parts-imported : (a : ℕ) → 0 < holders imports a
-        → (holds file a ≡ true) ⊎ ((0 < holders (rangesIn map) a) ⊎ ((isTdx isolation ≡ true) × (2 ^ 32 - pageSize ≤ a) × (a < 2 ^ 32)))
+    -- each imported byte lies in the file, in the map, or, under Tdx, in the page below 4 GiB
+    pub parts-imported : (a : ℕ) → 0 < holders imports a → MayBeImported isolation file (rangesIn map) a
     parts-imported a p =
         let free-ordered = file-free-ordered file map (accepted .file-walked) file-full map-ordered in
         ⊎-elim inl (λ q. inr (⊎-elim (λ h. inl (within h)) inr q))
@@ -166,9 +166,6 @@ module _ (isolation : IsolationType) (file : MemoryRange) (map : List TaggedRang
 
         within : 0 < holders (rangesIn (filed .free)) a → 0 < holders (rangesIn map) a
         within h = omega (arith, by-nodes (filed .free) map a free-on)
-
-    abbrev AtPages : MemoryRange → Type 0
-    AtPages r = AtPage (r .start) × AtPage (r .end)
 
     unsorted-paged : Paged unsorted
     unsorted-paged =

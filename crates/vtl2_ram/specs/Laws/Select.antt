@@ -49,7 +49,7 @@ module _ (isolation : IsolationType) (size : OptionU64) (file : MemoryRange) (ma
     (ram : List TaggedRange) where
   -- what an accepted boot selection shows
   module _ (e : choice Vtl2 isolation size file map imports ≡ chosen ram) where
-    boot-rows : RowsPassed file (entriesIn map) imports
+    pub boot-rows : RowsPassed file (entriesIn map) imports
     unfolding choice
     boot-rows =
         let p =
@@ -57,7 +57,7 @@ module _ (isolation : IsolationType) (size : OptionU64) (file : MemoryRange) (ma
         (unless-chosen (rowsRefusal Vtl2 file (mapRanges map) imports) (choiceBy Vtl2 isolation size file map imports) e .0) in
         (p .0, p .1, p .3, p .2, p .4)
 
-    boot-accepted : Accepted isolation file (entriesIn map) imports (shareIn size file map) (nodesIn map) ram
+    pub boot-accepted : Accepted isolation file (entriesIn map) imports (shareIn size file map) (nodesIn map) ram
     unfolding choice bootChoice
     boot-accepted =
         let nodes = nodesIn map in
