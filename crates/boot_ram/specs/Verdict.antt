@@ -3,11 +3,13 @@
 -- piece by piece, so a refusal hides whatever would follow it: `judged` (document 01, the text under the chart).
 use Prim.Native.Nat.{ℕ, _+_}
 use mathlib.Core.Bool.{cond}
+use mathlib.Core.Path.{_≡_}
 use mathlib.Core.List.{List, [], _∷_}
 use mathlib.Core.Option.{Option, none, some}
 use lib.Dec.{ltb}
 use lib.ListN.{length, set}
 use Rattle.memory_range.specs.declared.range.TaggedRange.{TaggedRange}
+use Rattle.memory_range.specs.List.{startsOf, endsOf, tagsOf}
 use Rattle.refusal.specs.declared.answer.Counted.{Counted}
 use Rattle.refusal.specs.Answer.{countedAs}
 use Rattle.refusal.specs.Number.{tooManyPieces}
@@ -60,3 +62,9 @@ chosenCounted c j = countedAs (j .refusal) (c + length (j .chosen))
 abbrev pub written : ℕ → List ℕ → List ℕ → List ℕ
 written k [] l = l
 written k (x ∷ xs) l = written (k + 1) xs (set l k x)
+
+-- three arrays with the starts, ends and nodes of entries written into them, from place k on: first the arrays
+-- as they were, then as they are
+abbrev pub WrittenTo : ℕ → List TaggedRange → List ℕ → List ℕ → List ℕ → List ℕ → List ℕ → List ℕ → Type 0
+WrittenTo k xs ss es ts ss′ es′ ts′ =
+    (ss′ ≡ written k (startsOf xs) ss) × (es′ ≡ written k (endsOf xs) es) × (ts′ ≡ written k (tagsOf xs) ts)

@@ -1,7 +1,7 @@
 // The walk of the file's range with the map.
 ghost use mathlib.Core.Path.{_≡_};
-ghost use Rattle.memory_range.specs.List.{taggedOf, startsOf, endsOf, tagsOf};
-ghost use Rattle.boot_ram.specs.Verdict.{written};
+ghost use Rattle.memory_range.specs.List.{taggedOf};
+ghost use Rattle.boot_ram.specs.Verdict.{WrittenTo};
 ghost use Rattle.boot_ram.specs.File.{fileWalk, filePieces};
 use host_params::MAX_VTL2_RAM_RANGES;
 use memory_range::MemoryRange;
@@ -36,32 +36,16 @@ pub fn walk_file<'a>(
     free_ends: &mut [u64; MAX_FREE_PIECES],
     free_nodes: &mut [u32; MAX_FREE_PIECES],
 ) -> FilePieces
-    ensures { λ r. ⌜
-        r ≡ filePieces (fileWalk file (taggedOf (now («map_starts» .entry)) (now («map_ends» .entry)) (now («map_nodes» .entry))))
-        ⌝ }
-    ensures { λ _. ⌜
-        now («ram_starts» .exit)
-        ≡ written 0 (startsOf (fileWalk file (taggedOf (now («map_starts» .entry)) (now («map_ends» .entry)) (now («map_nodes» .entry))) .chosen)) (now («ram_starts» .entry))
-        ⌝ }
-    ensures { λ _. ⌜
-        now («ram_ends» .exit)
-        ≡ written 0 (endsOf (fileWalk file (taggedOf (now («map_starts» .entry)) (now («map_ends» .entry)) (now («map_nodes» .entry))) .chosen)) (now («ram_ends» .entry))
-        ⌝ }
-    ensures { λ _. ⌜
-        now («ram_nodes» .exit)
-        ≡ written 0 (tagsOf (fileWalk file (taggedOf (now («map_starts» .entry)) (now («map_ends» .entry)) (now («map_nodes» .entry))) .chosen)) (now («ram_nodes» .entry))
-        ⌝ }
-    ensures { λ _. ⌜
-        now («free_starts» .exit)
-        ≡ written 0 (startsOf (fileWalk file (taggedOf (now («map_starts» .entry)) (now («map_ends» .entry)) (now («map_nodes» .entry))) .free)) (now («free_starts» .entry))
-        ⌝ }
-    ensures { λ _. ⌜
-        now («free_ends» .exit)
-        ≡ written 0 (endsOf (fileWalk file (taggedOf (now («map_starts» .entry)) (now («map_ends» .entry)) (now («map_nodes» .entry))) .free)) (now («free_ends» .entry))
-        ⌝ }
-    ensures { λ _. ⌜
-        now («free_nodes» .exit)
-        ≡ written 0 (tagsOf (fileWalk file (taggedOf (now («map_starts» .entry)) (now («map_ends» .entry)) (now («map_nodes» .entry))) .free)) (now («free_nodes» .entry))
+    ensures { λ r.
+        let map = taggedOf (now («map_starts» .entry)) (now («map_ends» .entry)) (now («map_nodes» .entry)) in
+        let walked = fileWalk file map in ⌜
+        (r ≡ filePieces walked)
+        × WrittenTo 0 (walked .chosen)
+        (now («ram_starts» .entry)) (now («ram_ends» .entry)) (now («ram_nodes» .entry))
+        (now («ram_starts» .exit)) (now («ram_ends» .exit)) (now («ram_nodes» .exit))
+        × WrittenTo 0 (walked .free)
+        (now («free_starts» .entry)) (now («free_ends» .entry)) (now («free_nodes» .entry))
+        (now («free_starts» .exit)) (now («free_ends» .exit)) (now («free_nodes» .exit))
         ⌝ }
 {
     let count = tagged_count(map_starts, map_ends, map_nodes);

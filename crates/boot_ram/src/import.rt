@@ -1,7 +1,7 @@
 // The imported ranges: they hold what was loaded before boot, so that nothing is taken from them.
 ghost use mathlib.Core.Path.{_≡_};
-ghost use Rattle.memory_range.specs.List.{rangesOf, taggedOf, startsOf, endsOf, tagsOf};
-ghost use Rattle.boot_ram.specs.Verdict.{written, freeCounted};
+ghost use Rattle.memory_range.specs.List.{rangesOf, taggedOf};
+ghost use Rattle.boot_ram.specs.Verdict.{WrittenTo, freeCounted};
 ghost use Rattle.boot_ram.specs.Import.{importWalk, importsClear, isTdx, isExcused, isSkipped};
 use crate::file::MAX_FREE_PIECES;
 use host_params::IsolationType;
@@ -88,28 +88,14 @@ pub fn walk_imports<'a>(
     free_ends: &mut [u64; MAX_FREE_PIECES],
     free_nodes: &mut [u32; MAX_FREE_PIECES],
 ) -> Counted
-    ensures { λ r. ⌜
-        r ≡ freeCounted (importWalk isolation file
-        (rangesOf (now («import_starts» .entry)) (now («import_ends» .entry)))
-        (taggedOf (now («found_starts» .entry)) (now («found_ends» .entry)) (now («found_nodes» .entry))))
-        ⌝ }
-    ensures { λ _. ⌜
-        now («free_starts» .exit) ≡ written 0 (startsOf (importWalk isolation file
-        (rangesOf (now («import_starts» .entry)) (now («import_ends» .entry)))
-        (taggedOf (now («found_starts» .entry)) (now («found_ends» .entry)) (now («found_nodes» .entry)))
-        .free)) (now («free_starts» .entry))
-        ⌝ }
-    ensures { λ _. ⌜
-        now («free_ends» .exit) ≡ written 0 (endsOf (importWalk isolation file
-        (rangesOf (now («import_starts» .entry)) (now («import_ends» .entry)))
-        (taggedOf (now («found_starts» .entry)) (now («found_ends» .entry)) (now («found_nodes» .entry)))
-        .free)) (now («free_ends» .entry))
-        ⌝ }
-    ensures { λ _. ⌜
-        now («free_nodes» .exit) ≡ written 0 (tagsOf (importWalk isolation file
-        (rangesOf (now («import_starts» .entry)) (now («import_ends» .entry)))
-        (taggedOf (now («found_starts» .entry)) (now («found_ends» .entry)) (now («found_nodes» .entry)))
-        .free)) (now («free_nodes» .entry))
+    ensures { λ r.
+        let imports = rangesOf (now («import_starts» .entry)) (now («import_ends» .entry)) in
+        let found = taggedOf (now («found_starts» .entry)) (now («found_ends» .entry)) (now («found_nodes» .entry)) in
+        let walked = importWalk isolation file imports found in ⌜
+        (r ≡ freeCounted walked)
+        × WrittenTo 0 (walked .free)
+        (now («free_starts» .entry)) (now («free_ends» .entry)) (now («free_nodes» .entry))
+        (now («free_starts» .exit)) (now («free_ends» .exit)) (now («free_nodes» .exit))
         ⌝ }
 {
     let count = tagged_count(found_starts, found_ends, found_nodes);

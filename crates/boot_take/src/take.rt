@@ -2,8 +2,8 @@
 ghost use mathlib.Core.Path.{_≡_};
 ghost use Prim.Native.Nat.{_-_, _≤_};
 ghost use lib.ListN.{length, replicate};
-ghost use Rattle.memory_range.specs.List.{taggedOf, startsOf, endsOf, tagsOf, firstTagged};
-ghost use Rattle.boot_ram.specs.Verdict.{judged, written, chosenCounted};
+ghost use Rattle.memory_range.specs.List.{taggedOf, firstTagged};
+ghost use Rattle.boot_ram.specs.Verdict.{judged, WrittenTo, chosenCounted};
 ghost use Rattle.boot_take.specs.Take.{takenStart, needOn, taking};
 ghost use Rattle.boot_nodes.specs.Node.{countUp};
 ghost use Rattle.boot_take.specs.Laws.Linked.{Linked, Highest, Begins};
@@ -109,25 +109,13 @@ fn take_on<'a>(
 ) -> Counted
     requires { ⌜ (top ≤ length (now «free_starts»)) × (top ≤ length (now «free_ends»)) × (top ≤ length (now «free_nodes»)) × (top ≤ length (now lower)) ⌝
         ∗ ⌜ Linked (now «free_nodes») (now lower) top ⌝ ∗ ⌜ Begins (now «free_nodes») node top ⌝ }
-    ensures { λ r. ⌜
-        r ≡ chosenCounted chosen (judged 0 chosen (takeBelow node required
-        (taggedOf (now («free_starts» .entry)) (now («free_ends» .entry)) (now («free_nodes» .entry)))
-        top))
-        ⌝ }
-    ensures { λ _. ⌜
-        now («ram_starts» .exit) ≡ written chosen (startsOf (judged 0 chosen (takeBelow node required
-        (taggedOf (now («free_starts» .entry)) (now («free_ends» .entry)) (now («free_nodes» .entry)))
-        top) .chosen)) (now («ram_starts» .entry))
-        ⌝ }
-    ensures { λ _. ⌜
-        now («ram_ends» .exit) ≡ written chosen (endsOf (judged 0 chosen (takeBelow node required
-        (taggedOf (now («free_starts» .entry)) (now («free_ends» .entry)) (now («free_nodes» .entry)))
-        top) .chosen)) (now («ram_ends» .entry))
-        ⌝ }
-    ensures { λ _. ⌜
-        now («ram_nodes» .exit) ≡ written chosen (tagsOf (judged 0 chosen (takeBelow node required
-        (taggedOf (now («free_starts» .entry)) (now («free_ends» .entry)) (now («free_nodes» .entry)))
-        top) .chosen)) (now («ram_nodes» .entry))
+    ensures { λ r.
+        let free = taggedOf (now («free_starts» .entry)) (now («free_ends» .entry)) (now («free_nodes» .entry)) in
+        let taken = judged 0 chosen (takeBelow node required free top) in ⌜
+        (r ≡ chosenCounted chosen taken)
+        × WrittenTo chosen (taken .chosen)
+        (now («ram_starts» .entry)) (now («ram_ends» .entry)) (now («ram_nodes» .entry))
+        (now («ram_starts» .exit)) (now («ram_ends» .exit)) (now («ram_nodes» .exit))
         ⌝ }
 {
     let mut need = required;
@@ -176,40 +164,14 @@ pub fn take_ram<'a>(
     ram_nodes: &mut [u32; MAX_VTL2_RAM_RANGES],
     file_pieces: usize,
 ) -> Counted
-    ensures { λ r. ⌜
-        r ≡ chosenCounted
-        (length (firstTagged «file_pieces» (now («ram_starts» .entry)) (now («ram_ends» .entry)) (now («ram_nodes» .entry))))
-        (taking share
-        (firstTagged «file_pieces» (now («ram_starts» .entry)) (now («ram_ends» .entry)) (now («ram_nodes» .entry)))
-        (firstTagged free (now («free_starts» .entry)) (now («free_ends» .entry)) (now («free_nodes» .entry)))
-        (countUp 0 «numa_node_count»))
-        ⌝ }
-    ensures { λ _. ⌜
-        now («ram_starts» .exit) ≡ written
-        (length (firstTagged «file_pieces» (now («ram_starts» .entry)) (now («ram_ends» .entry)) (now («ram_nodes» .entry))))
-        (startsOf (taking share
-        (firstTagged «file_pieces» (now («ram_starts» .entry)) (now («ram_ends» .entry)) (now («ram_nodes» .entry)))
-        (firstTagged free (now («free_starts» .entry)) (now («free_ends» .entry)) (now («free_nodes» .entry)))
-        (countUp 0 «numa_node_count») .chosen))
-        (now («ram_starts» .entry))
-        ⌝ }
-    ensures { λ _. ⌜
-        now («ram_ends» .exit) ≡ written
-        (length (firstTagged «file_pieces» (now («ram_starts» .entry)) (now («ram_ends» .entry)) (now («ram_nodes» .entry))))
-        (endsOf (taking share
-        (firstTagged «file_pieces» (now («ram_starts» .entry)) (now («ram_ends» .entry)) (now («ram_nodes» .entry)))
-        (firstTagged free (now («free_starts» .entry)) (now («free_ends» .entry)) (now («free_nodes» .entry)))
-        (countUp 0 «numa_node_count») .chosen))
-        (now («ram_ends» .entry))
-        ⌝ }
-    ensures { λ _. ⌜
-        now («ram_nodes» .exit) ≡ written
-        (length (firstTagged «file_pieces» (now («ram_starts» .entry)) (now («ram_ends» .entry)) (now («ram_nodes» .entry))))
-        (tagsOf (taking share
-        (firstTagged «file_pieces» (now («ram_starts» .entry)) (now («ram_ends» .entry)) (now («ram_nodes» .entry)))
-        (firstTagged free (now («free_starts» .entry)) (now («free_ends» .entry)) (now («free_nodes» .entry)))
-        (countUp 0 «numa_node_count») .chosen))
-        (now («ram_nodes» .entry))
+    ensures { λ r.
+        let pieces = firstTagged «file_pieces» (now («ram_starts» .entry)) (now («ram_ends» .entry)) (now («ram_nodes» .entry)) in
+        let entries = firstTagged free (now («free_starts» .entry)) (now («free_ends» .entry)) (now («free_nodes» .entry)) in
+        let taken = taking share pieces entries (countUp 0 «numa_node_count») in ⌜
+        (r ≡ chosenCounted (length pieces) taken)
+        × WrittenTo (length pieces) (taken .chosen)
+        (now («ram_starts» .entry)) (now («ram_ends» .entry)) (now («ram_nodes» .entry))
+        (now («ram_starts» .exit)) (now («ram_ends» .exit)) (now («ram_nodes» .exit))
         ⌝ }
 {
     let mut count = free;

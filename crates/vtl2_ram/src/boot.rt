@@ -1,11 +1,11 @@
 // Boot mode: the shim chooses from the host's map.
 ghost use mathlib.Core.Path.{_≡_};
 ghost use Rattle.memory_range.specs.Bytes.{Ordered};
-ghost use Rattle.memory_range.specs.List.{rangesIn, rangesOf, taggedOf, startsOf, endsOf, tagsOf, firstTagged};
+ghost use Rattle.memory_range.specs.List.{rangesIn, rangesOf, taggedOf, tagsOf, firstTagged};
 ghost use lib.ListN.{length};
 ghost use Rattle.boot_nodes.specs.Share.{shareOf};
 ghost use Rattle.boot_nodes.specs.Node.{countUp, nodesCounted};
-ghost use Rattle.boot_ram.specs.Verdict.{written, chosenCounted};
+ghost use Rattle.boot_ram.specs.Verdict.{WrittenTo, chosenCounted};
 ghost use Rattle.boot_take.specs.Laws.Stored.{Stored};
 ghost use Rattle.vtl2_ram.specs.Ram.{ramAs};
 ghost use Rattle.vtl2_ram.specs.Boot.{sizeWanted, shareAs, shareTooLargeFor, shareRefusal, afterImports, RowsPassed, besideFile, bootParts, bootChoice};
@@ -78,48 +78,15 @@ fn take_free<'a>(
     ram_nodes: &mut [u32; MAX_VTL2_RAM_RANGES],
     file_pieces: usize,
 ) -> Counted
-    ensures { λ r. ⌜
-        r ≡ chosenCounted
-        (length (firstTagged «file_pieces» (now («ram_starts» .entry)) (now («ram_ends» .entry)) (now («ram_nodes» .entry))))
-        (afterImports isolation file
-        (rangesOf (now («import_starts» .entry)) (now («import_ends» .entry)))
-        (taggedOf (now («found_starts» .entry)) (now («found_ends» .entry)) (now («found_nodes» .entry)))
-        share
-        (firstTagged «file_pieces» (now («ram_starts» .entry)) (now («ram_ends» .entry)) (now («ram_nodes» .entry)))
-        (countUp 0 «numa_node_count»))
-        ⌝ }
-    ensures { λ _. ⌜
-        now («ram_starts» .exit) ≡ written
-        (length (firstTagged «file_pieces» (now («ram_starts» .entry)) (now («ram_ends» .entry)) (now («ram_nodes» .entry))))
-        (startsOf (afterImports isolation file
-        (rangesOf (now («import_starts» .entry)) (now («import_ends» .entry)))
-        (taggedOf (now («found_starts» .entry)) (now («found_ends» .entry)) (now («found_nodes» .entry)))
-        share
-        (firstTagged «file_pieces» (now («ram_starts» .entry)) (now («ram_ends» .entry)) (now («ram_nodes» .entry)))
-        (countUp 0 «numa_node_count») .chosen))
-        (now («ram_starts» .entry))
-        ⌝ }
-    ensures { λ _. ⌜
-        now («ram_ends» .exit) ≡ written
-        (length (firstTagged «file_pieces» (now («ram_starts» .entry)) (now («ram_ends» .entry)) (now («ram_nodes» .entry))))
-        (endsOf (afterImports isolation file
-        (rangesOf (now («import_starts» .entry)) (now («import_ends» .entry)))
-        (taggedOf (now («found_starts» .entry)) (now («found_ends» .entry)) (now («found_nodes» .entry)))
-        share
-        (firstTagged «file_pieces» (now («ram_starts» .entry)) (now («ram_ends» .entry)) (now («ram_nodes» .entry)))
-        (countUp 0 «numa_node_count») .chosen))
-        (now («ram_ends» .entry))
-        ⌝ }
-    ensures { λ _. ⌜
-        now («ram_nodes» .exit) ≡ written
-        (length (firstTagged «file_pieces» (now («ram_starts» .entry)) (now («ram_ends» .entry)) (now («ram_nodes» .entry))))
-        (tagsOf (afterImports isolation file
-        (rangesOf (now («import_starts» .entry)) (now («import_ends» .entry)))
-        (taggedOf (now («found_starts» .entry)) (now («found_ends» .entry)) (now («found_nodes» .entry)))
-        share
-        (firstTagged «file_pieces» (now («ram_starts» .entry)) (now («ram_ends» .entry)) (now («ram_nodes» .entry)))
-        (countUp 0 «numa_node_count») .chosen))
-        (now («ram_nodes» .entry))
+    ensures { λ r.
+        let imports = rangesOf (now («import_starts» .entry)) (now («import_ends» .entry)) in
+        let found = taggedOf (now («found_starts» .entry)) (now («found_ends» .entry)) (now («found_nodes» .entry)) in
+        let pieces = firstTagged «file_pieces» (now («ram_starts» .entry)) (now («ram_ends» .entry)) (now («ram_nodes» .entry)) in
+        let taken = afterImports isolation file imports found share pieces (countUp 0 «numa_node_count») in ⌜
+        (r ≡ chosenCounted (length pieces) taken)
+        × WrittenTo (length pieces) (taken .chosen)
+        (now («ram_starts» .entry)) (now («ram_ends» .entry)) (now («ram_nodes» .entry))
+        (now («ram_starts» .exit)) (now («ram_ends» .exit)) (now («ram_nodes» .exit))
         ⌝ }
 {
     let mut free_starts = [0; MAX_FREE_PIECES];
@@ -170,21 +137,16 @@ fn choose_beside_file<'a>(
     mut ram_nodes: [u32; MAX_VTL2_RAM_RANGES],
     file_pieces: usize,
 ) -> Vtl2Ram
-    requires { ⌜ Stored 64 (firstTagged «file_pieces» «ram_starts» «ram_ends» «ram_nodes») «ram_starts» «ram_ends» «ram_nodes» ⌝
-        ∗ ⌜ Ordered 0 (rangesIn (entriesOf (besideFile isolation file
-        (rangesOf (now «import_starts») (now «import_ends»))
-        share
-        (countUp 0 «numa_node_count»)
-        (taggedOf (now «found_starts») (now «found_ends») (now «found_nodes»))
-        (firstTagged «file_pieces» «ram_starts» «ram_ends» «ram_nodes»)))) ⌝ }
-    ensures { λ r. ⌜
-        r ≡ ramAs (besideFile isolation file
-        (rangesOf (now («import_starts» .entry)) (now («import_ends» .entry)))
-        share
-        (countUp 0 «numa_node_count»)
-        (taggedOf (now («found_starts» .entry)) (now («found_ends» .entry)) (now («found_nodes» .entry)))
-        (firstTagged «file_pieces» «ram_starts» «ram_ends» «ram_nodes»))
-        ⌝ }
+    requires { let imports = rangesOf (now «import_starts») (now «import_ends») in
+        let found = taggedOf (now «found_starts») (now «found_ends») (now «found_nodes») in
+        let pieces = firstTagged «file_pieces» «ram_starts» «ram_ends» «ram_nodes» in
+        let choice = besideFile isolation file imports share (countUp 0 «numa_node_count») found pieces in
+        ⌜ Stored 64 pieces «ram_starts» «ram_ends» «ram_nodes» ⌝ ∗ ⌜ Ordered 0 (rangesIn (entriesOf choice)) ⌝ }
+    ensures { λ r.
+        let imports = rangesOf (now («import_starts» .entry)) (now («import_ends» .entry)) in
+        let found = taggedOf (now («found_starts» .entry)) (now («found_ends» .entry)) (now («found_nodes» .entry)) in
+        let pieces = firstTagged «file_pieces» «ram_starts» «ram_ends» «ram_nodes» in
+        ⌜ r ≡ ramAs (besideFile isolation file imports share (countUp 0 «numa_node_count») found pieces) ⌝ }
 {
     if !imports_clear(file, import_starts, import_ends) {
         return refused_ram(IMPORT_CROSSES_FILE);

@@ -2,11 +2,10 @@
 ghost use mathlib.Core.Path.{_≡_};
 ghost use lib.ListN.{take};
 ghost use Rattle.memory_range.specs.Bytes.{Ordered};
-ghost use Rattle.memory_range.specs.List.{startsOf, endsOf, tagsOf};
 ghost use Rattle.memory_range.specs.Valid.{validRange};
 ghost use mathlib.Core.Bool.{true};
 ghost use Rattle.boot_ram.specs.Held.{bytesOf};
-ghost use Rattle.boot_ram.specs.Verdict.{maxChosen, written};
+ghost use Rattle.boot_ram.specs.Verdict.{maxChosen, WrittenTo};
 ghost use Rattle.host_map.specs.Map.{mapOf, mapRanges, protectableIn, SameLengths};
 ghost use Rattle.vtl2_ram.specs.Ram.{ramAs};
 ghost use Rattle.vtl2_ram.specs.Host.{isHardwareIsolated, isolatedChoice, protectableCounted, protectableChoice, hostChoice};
@@ -17,6 +16,7 @@ use crate::ram::refused_ram;
 use host_params::IsolationType;
 use host_params::MAX_VTL2_RAM_RANGES;
 use memory_range::MemoryRange;
+use memory_range::put_range;
 use refusal::Counted;
 use refusal::SHARE_TOO_LARGE;
 use refusal::TOO_MANY_PIECES;
@@ -88,10 +88,13 @@ fn list_protectable<'a>(
     ram_nodes: &mut [u32; MAX_VTL2_RAM_RANGES],
 ) -> Counted
     requires { ⌜ SameLengths (now starts) (now ends) (now nodes) (now protectable) ⌝ }
-    ensures { λ r. ⌜ r ≡ protectableCounted (protectableIn (mapOf (now (starts .entry)) (now (ends .entry)) (now (nodes .entry)) (now (protectable .entry)))) ⌝ }
-    ensures { λ _. ⌜ now («ram_starts» .exit) ≡ written 0 (startsOf (take maxChosen (protectableIn (mapOf (now (starts .entry)) (now (ends .entry)) (now (nodes .entry)) (now (protectable .entry)))))) (now («ram_starts» .entry)) ⌝ }
-    ensures { λ _. ⌜ now («ram_ends» .exit) ≡ written 0 (endsOf (take maxChosen (protectableIn (mapOf (now (starts .entry)) (now (ends .entry)) (now (nodes .entry)) (now (protectable .entry)))))) (now («ram_ends» .entry)) ⌝ }
-    ensures { λ _. ⌜ now («ram_nodes» .exit) ≡ written 0 (tagsOf (take maxChosen (protectableIn (mapOf (now (starts .entry)) (now (ends .entry)) (now (nodes .entry)) (now (protectable .entry)))))) (now («ram_nodes» .entry)) ⌝ }
+    ensures { λ r.
+        let entries = protectableIn (mapOf (now (starts .entry)) (now (ends .entry)) (now (nodes .entry)) (now (protectable .entry))) in ⌜
+        (r ≡ protectableCounted entries)
+        × WrittenTo 0 (take maxChosen entries)
+        (now («ram_starts» .entry)) (now («ram_ends» .entry)) (now («ram_nodes» .entry))
+        (now («ram_starts» .exit)) (now («ram_ends» .exit)) (now («ram_nodes» .exit))
+        ⌝ }
 {
     let mut count = 0;
     let mut i = 0;
@@ -100,9 +103,12 @@ fn list_protectable<'a>(
             if MAX_VTL2_RAM_RANGES <= count {
                 return Counted::Refused(TOO_MANY_PIECES);
             }
-            ram_starts[count] = starts[i];
-            ram_ends[count] = ends[i];
-            ram_nodes[count] = nodes[i];
+            let range = MemoryRange {
+                start: starts[i],
+                end: ends[i],
+            };
+            let node = nodes[i];
+            put_range(ram_starts, ram_ends, ram_nodes, count, range, node);
             count += 1;
         }
         i += 1;

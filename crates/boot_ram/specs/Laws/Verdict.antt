@@ -9,7 +9,7 @@ use lib.ListN.{length, set, length-set}
 use borrow.Author.Tests.{lt-ltb, le-ltb}
 use Rattle.memory_range.specs.declared.range.TaggedRange.{TaggedRange}
 use Rattle.memory_range.specs.List.{startsOf, endsOf, tagsOf}
-use Rattle.boot_ram.specs.Verdict.{Verdict, free, choose, maxFree, maxChosen, ends, withFree, withChosen, judged, written}
+use Rattle.boot_ram.specs.Verdict.{Verdict, free, choose, maxFree, maxChosen, ends, withFree, withChosen, judged, written, WrittenTo}
 use Rattle.refusal.specs.Number.{tooManyPieces}
 
 -- a free piece is held where there is room for it, and else refused; likewise a chosen one
@@ -52,6 +52,5 @@ module _ {k₀ k : ℕ} {xs₀ : List TaggedRange} {ss₀ es₀ ts₀ ss es ts :
   }
 
   -- none is left
-  pub writes-none : Writes k₀ xs₀ ss₀ es₀ ts₀ k [] ss es ts
-      → (ss ≡ written k₀ (startsOf xs₀) ss₀) × ((es ≡ written k₀ (endsOf xs₀) es₀) × (ts ≡ written k₀ (tagsOf xs₀) ts₀))
-  writes-none w = (sym (w .starts), (sym (w .ends), sym (w .tags)))
+  pub writes-none : Writes k₀ xs₀ ss₀ es₀ ts₀ k [] ss es ts → WrittenTo k₀ xs₀ ss₀ es₀ ts₀ ss es ts
+  writes-none w = (sym (w .starts), sym (w .ends), sym (w .tags))

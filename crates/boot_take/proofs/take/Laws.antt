@@ -74,8 +74,8 @@ module _ {share n : ℕ} {free pieces : List TaggedRange} {ss₀ es₀ ts₀ : L
           file =
               rw (
                 w .1 .0,
-                w .1 .1 .0,
-                w .1 .1 .1,
+                w .1 .1,
+                w .1 .2,
                 before-written held chosen (startsOf (j .chosen)) ss (k .above),
                 before-written held chosen (endsOf (j .chosen)) es (k .above),
                 before-written held chosen (tagsOf (j .chosen)) ts (k .above),

@@ -11,7 +11,7 @@ use Rattle.memory_range.specs.declared.range.TaggedRange.{TaggedRange}
 use Rattle.memory_range.specs.List.{startsOf, endsOf, tagsOf}
 use Rattle.refusal.specs.declared.answer.Counted.{Counted}
 use Rattle.refusal.specs.declared.answer.Counted.the-variants.{Count, Refused}
-use Rattle.boot_ram.specs.Verdict.{Verdict, choose, refuse, Judged, judged, maxChosen, chosenCounted, written}
+use Rattle.boot_ram.specs.Verdict.{Verdict, choose, refuse, Judged, judged, maxChosen, chosenCounted, written, WrittenTo}
 use Rattle.refusal.specs.Number.{tooManyPieces}
 
 -- an answer, and the starts, ends and nodes of the chosen pieces
@@ -66,20 +66,16 @@ module _ (c : ℕ) (ss es ts : List ℕ) where
 
 -- the outcome in its parts, as a contract says them
 abbrev pub Chosen : ℕ → Judged → List ℕ → List ℕ → List ℕ → Outcome → Type 0
-Chosen c j ss es ts o =
-    (o .answer ≡ chosenCounted c j)
-    × ((o .starts ≡ written c (startsOf (j .chosen)) ss)
-    × ((o .ends ≡ written c (endsOf (j .chosen)) es)
-    × (o .tags ≡ written c (tagsOf (j .chosen)) ts)))
+Chosen c j ss es ts o = (o .answer ≡ chosenCounted c j) × WrittenTo c (j .chosen) ss es ts (o .starts) (o .ends) (o .tags)
 
 module _ (c : ℕ) (vs : List Verdict) (ss es ts : List ℕ) (a : Counted) (ss′ es′ ts′ : List ℕ) where
   pub choosing-parts : choosing c vs ss es ts ≡ outcome a ss′ es′ ts′ → Chosen c (judged 0 c vs) ss es ts (outcome a ss′ es′ ts′)
   unfolding choosing
-  choosing-parts e = (cc, (cc, (cc, cc)))
+  choosing-parts e = (cc, (cc, cc, cc))
 
   pub parts-choosing : Chosen c (judged 0 c vs) ss es ts (outcome a ss′ es′ ts′) → choosing c vs ss es ts ≡ outcome a ss′ es′ ts′
   unfolding choosing
-  parts-choosing h = rw (h .0, h .1 .0, h .1 .1 .0, h .1 .1 .1)
+  parts-choosing h = rw (h .0, h .1 .0, h .1 .1, h .1 .2)
 
 -- writing from place k on leaves what stands before it
 pub before-written : (h k : ℕ) (xs l : List ℕ) → h ≤ k → take h (written k xs l) ≡ take h l

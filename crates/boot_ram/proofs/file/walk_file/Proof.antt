@@ -4,7 +4,7 @@
 use Prim.Native.Nat.{ℕ, _≤_, _<_}
 use mathlib.Core.List.{List, [], _∷_}
 use mathlib.Core.Option.{Option, none, some}
-use mathlib.Core.Path.{_≡_, refl, ap, sym, _∙_}
+use mathlib.Core.Path.{_≡_, refl, ap, _∙_}
 use native.Mathlib.Omega.{arith}
 use borrow.Author.Needs.{needs}
 use lib.ListN.{length, length-take}
@@ -13,12 +13,12 @@ use Rattle.memory_range.specs.declared.range.TaggedRange.{TaggedRange}
 use Rattle.range_lists.specs.declared.walk.RangeWalkResult.{RangeWalkResult}
 use Rattle.range_lists.specs.declared.walk.WalkCursor.{WalkCursor}
 use Rattle.range_lists.specs.declared.walk.WalkPiece.{WalkPiece}
-use Rattle.memory_range.specs.List.{rangesIn, rangesOf, taggedOf, startsOf, endsOf, tagsOf}
+use Rattle.memory_range.specs.List.{rangesIn, rangesOf, taggedOf}
 use Rattle.range_lists.specs.Walk.{walk, walkFrom, walkStepped}
 use Rattle.memory_range.specs.Laws.List.{length-tagged}
 use Rattle.refusal.specs.Number.{fileNotInMap, tooManyPieces}
 use Rattle.boot_ram.specs.File.{fileVerdicts, fileWalk, filePieces, filePiecesAs}
-use Rattle.boot_ram.specs.Verdict.{Verdict, Judged, judged, written}
+use Rattle.boot_ram.specs.Verdict.{Verdict, Judged, judged, WrittenTo}
 use Rattle.range_lists.specs.Laws.Entries.{entries-step, next-piece, entries-items, tag-tagged}
 use Rattle.boot_ram.specs.Laws.Verdict.{judged-free, judged-free-full, judged-choose, judged-choose-full}
 use Rattle.boot_ram.specs.Laws.Verdict.{Writes, writes-all, writes-next, writes-none}
@@ -96,15 +96,11 @@ chosen-item r =
 -- no piece is left, or one is refused
 done : (j : Judged) (o : Option ℕ) {f c : ℕ} {fs₀ fe₀ fn₀ fs fe fn cs₀ ce₀ cn₀ cs ce cn : List ℕ}
     → (j .refusal ≡ o) × Writes 0 (j .free) fs₀ fe₀ fn₀ f [] fs fe fn × Writes 0 (j .chosen) cs₀ ce₀ cn₀ c [] cs ce cn
-    → (filePiecesAs o c f ≡ filePieces j)
-    × ((cs ≡ written 0 (startsOf (j .chosen)) cs₀)
-    × ((ce ≡ written 0 (endsOf (j .chosen)) ce₀)
-    × ((cn ≡ written 0 (tagsOf (j .chosen)) cn₀)
-    × ((fs ≡ written 0 (startsOf (j .free)) fs₀) × ((fe ≡ written 0 (endsOf (j .free)) fe₀) × (fn ≡ written 0 (tagsOf (j .free)) fn₀))))))
+    → (filePiecesAs o c f ≡ filePieces j) × WrittenTo 0 (j .chosen) cs₀ ce₀ cn₀ cs ce cn × WrittenTo 0 (j .free) fs₀ fe₀ fn₀ fs fe fn
 done j o {f} {c} (e, w, v) =
     let free : length (j .free) ≡ f = omega (arith, w .count) in
     let chosen : length (j .chosen) ≡ c = omega (arith, v .count) in
-    (rw (e, free, chosen), (sym (v .starts), (sym (v .ends), (sym (v .tags), writes-none w))))
+    (rw (e, free, chosen), writes-none v, writes-none w)
 
 loop-holds : tie.Need-loop-holds Inv-loop μ-loop
 loop-holds c = rw (c .start .ensures) (refl, writes-all _ _ _ _ _, writes-all _ _ _ _ _)

@@ -15,12 +15,12 @@ use Rattle.memory_range.specs.declared.range.TaggedRange.{TaggedRange}
 use Rattle.range_lists.specs.declared.walk.RangeWalkResult.{RangeWalkResult}
 use Rattle.range_lists.specs.declared.walk.WalkCursor.{WalkCursor}
 use Rattle.range_lists.specs.declared.walk.WalkPiece.{WalkPiece}
-use Rattle.memory_range.specs.List.{rangesIn, rangesOf, taggedOf, startsOf, endsOf, tagsOf}
+use Rattle.memory_range.specs.List.{rangesIn, rangesOf, taggedOf}
 use Rattle.range_lists.specs.Walk.{walk, walkFrom, walkStepped}
 use Rattle.memory_range.specs.Laws.List.{length-ranges, length-tagged, getD-ranges}
 use Rattle.refusal.specs.Number.{importNotInMap, tooManyPieces}
 use Rattle.boot_ram.specs.Import.{importVerdicts, importWalk}
-use Rattle.boot_ram.specs.Verdict.{Verdict, refuse, pass, Judged, judged, written, freeCounted}
+use Rattle.boot_ram.specs.Verdict.{Verdict, refuse, pass, Judged, judged, WrittenTo, freeCounted}
 use Rattle.refusal.specs.Answer.{countedAs}
 use Rattle.range_lists.specs.Laws.Entries.{entries-step, next-piece, entries-items, tag-tagged}
 use Rattle.boot_ram.specs.Laws.Verdict.{Writes, writes-all, writes-next, writes-none, judged-free, judged-free-full}
@@ -115,8 +115,7 @@ import-judged c e =
 -- no piece is left, or one is refused
 done : (j : Judged) (o : Option ℕ) {f : ℕ} {fs₀ fe₀ fn₀ fs fe fn : List ℕ}
     → (j .refusal ≡ o) × Writes 0 (j .free) fs₀ fe₀ fn₀ f [] fs fe fn
-    → (countedAs o f ≡ freeCounted j)
-    × ((fs ≡ written 0 (startsOf (j .free)) fs₀) × ((fe ≡ written 0 (endsOf (j .free)) fe₀) × (fn ≡ written 0 (tagsOf (j .free)) fn₀)))
+    → (countedAs o f ≡ freeCounted j) × WrittenTo 0 (j .free) fs₀ fe₀ fn₀ fs fe fn
 done j o {f} (e, w) =
     let free : length (j .free) ≡ f = omega (arith, w .count) in
     (rw (e, free), writes-none w)

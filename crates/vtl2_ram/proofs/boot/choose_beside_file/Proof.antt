@@ -82,7 +82,7 @@ stored : (k : tie.After-count)
     Stored maxChosen (everything (start k)) (m .0) (m .1 .0) (m .1 .1 .0)
 stored k =
     let e = k .before .before .take-free .ensures .1 in
-    stored-more (start k .pre .0) (taken (start k) .chosen) (e .0) (e .1 .0) (e .1 .1)
+    stored-more (start k .pre .0) (taken (start k) .chosen) (e .0) (e .1) (e .2)
 
 held : (k : tie.After-count)
     → let m = k .before .before .take-free .last .1 .1 .1 .1 .1 .1 .1 .1 .1 in

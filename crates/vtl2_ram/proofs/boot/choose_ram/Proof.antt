@@ -58,7 +58,7 @@ chosen-stored : (w : tie.After-walk-file)
     Stored maxChosen (pieces (entry w) .chosen) (l .0) (l .1 .0) (l .1 .1 .0)
 chosen-stored w =
     let e = w .walk-file .ensures .1 in
-    record { starts = e .0; ends = e .1 .0; tags = e .1 .1 .0 }
+    record { starts = e .0; ends = e .1; tags = e .2 }
 
 chosen-found : (c : tie.After-file-pieces)
     → let l = c .before .before .walk-file .last .1 .1 .1 .1 in
@@ -72,8 +72,8 @@ free-found : (c : tie.After-file-pieces)
     Found (c .file-pieces .given .0 .1 .0) (pieces (start c) .free) (l .0) (l .1 .0) (l .1 .1 .0)
 free-found c =
     let s = start c in
-    let e = c .before .before .walk-file .ensures .1 .1 .1 .1 in
-    let stored : Stored maxFree (pieces s .free) _ _ _ = record { starts = e .0; ends = e .1 .0; tags = e .1 .1 } in
+    let e = c .before .before .walk-file .ensures .2 in
+    let stored : Stored maxFree (pieces s .free) _ _ _ = record { starts = e .0; ends = e .1; tags = e .2 } in
     stored-found stored (pieces-fit (s .args .file) (map s) .1) (walked c .2)
 
 -- the parts are those beside the file

@@ -52,7 +52,7 @@ free-found c =
     let w = c .before .before in
     let s = entry w in
     let e = w .walk-imports .ensures .1 in
-    let stored : Stored maxFree (walked s .free) _ _ _ = record { starts = e .0; ends = e .1 .0; tags = e .1 .1 } in
+    let stored : Stored maxFree (walked s .free) _ _ _ = record { starts = e .0; ends = e .1; tags = e .2 } in
     stored-found stored (omega (arith, import-bounds (s .args .isolation) (s .args .file) (imports s) (found s) .0)) (passed c .1) .3
 
 returns : tie.Need-returns
@@ -64,7 +64,7 @@ returns c =
     let refused = counted-refused (m .refusal) (length (m .free)) (sym (w .walk-imports .ensures .0) ∙ c .before .number .given .1) in
     rw
     (after-refused (a .isolation) (a .file) (imports s) (a .share) (countUp 0 (a .numa-node-count)) (found s) (pieces s) refused)
-    (refl, (refl, (refl, refl)))
+    (refl, (refl, refl, refl))
 
 returns-2 : tie.Need-returns-2
 returns-2 c =

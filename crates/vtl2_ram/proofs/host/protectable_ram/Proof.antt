@@ -42,8 +42,7 @@ chosen-ram-requires c κs =
     let n = count k in
     let p = k .before .before .before in
     let s = start p in
-    let w = p .list-protectable .ensures .1 in
-    let e = protectable-entries (entries s) (k .before .count .given .0 .0) (n .0) (n .1) (w .0) (w .1 .0) (w .1 .1) in
+    let e = protectable-entries (entries s) (k .before .count .given .0 .0) (n .0) (n .1) (p .list-protectable .ensures .1) in
     (n .1, rw e (protectable-ordered 0 (map s) (s .pre .1)))
 
 returns-2 : tie.Need-returns-2
@@ -60,10 +59,9 @@ returns-3 c =
     let n = count k in
     let p = k .before .before .before in
     let s = start p in
-    let w = p .list-protectable .ensures .1 in
     let some : 0 < length (entries s) = omega arith in
     rw (protectable-all (s .args .file) (entries s) some (omega arith))
-    (c .chosen-ram .ensures ∙ protectable-ram-of (entries s) (k .before .count .given .0 .0) (n .0) (n .1) (w .0) (w .1 .0) (w .1 .1))
+    (c .chosen-ram .ensures ∙ protectable-ram-of (entries s) (k .before .count .given .0 .0) (n .0) (n .1) (p .list-protectable .ensures .1))
 
 pub protectable-ram-spec : {M : Type 1} → statement M
 protectable-ram-spec =
