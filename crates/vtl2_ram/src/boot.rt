@@ -190,8 +190,13 @@ fn choose_ram<'a>(
     share: u64,
     numa_node_count: u32,
 ) -> Vtl2Ram
-    requires { ⌜ RowsPassed file (taggedOf (now «map_starts») (now «map_ends») (now «map_nodes»)) (rangesOf (now «import_starts») (now «import_ends»)) ⌝ }
-    ensures { λ r. ⌜ r ≡ ramAs (bootParts isolation file (taggedOf (now («map_starts» .entry)) (now («map_ends» .entry)) (now («map_nodes» .entry))) (rangesOf (now («import_starts» .entry)) (now («import_ends» .entry))) share (countUp 0 «numa_node_count»)) ⌝ }
+    requires { let map = taggedOf (now «map_starts») (now «map_ends») (now «map_nodes») in
+        let imports = rangesOf (now «import_starts») (now «import_ends») in
+        ⌜ RowsPassed file map imports ⌝ }
+    ensures { λ r.
+        let map = taggedOf (now («map_starts» .entry)) (now («map_ends» .entry)) (now («map_nodes» .entry)) in
+        let imports = rangesOf (now («import_starts» .entry)) (now («import_ends» .entry)) in
+        ⌜ r ≡ ramAs (bootParts isolation file map imports share (countUp 0 «numa_node_count»)) ⌝ }
 {
     let mut ram_starts = [0; MAX_VTL2_RAM_RANGES];
     let mut ram_ends = [0; MAX_VTL2_RAM_RANGES];
@@ -242,10 +247,13 @@ pub(crate) fn allocate_vtl2_ram<'a>(
     import_starts: &'a [u64],
     import_ends: &'a [u64],
 ) -> Vtl2Ram
-    requires { ⌜ «numa_node_count» ≡ nodesCounted (now «map_nodes») ⌝
-        ∗ ⌜ tagsOf (taggedOf (now «map_starts») (now «map_ends») (now «map_nodes»)) ≡ now «map_nodes» ⌝
-        ∗ ⌜ RowsPassed file (taggedOf (now «map_starts») (now «map_ends») (now «map_nodes»)) (rangesOf (now «import_starts») (now «import_ends»)) ⌝ }
-    ensures { λ r. ⌜ r ≡ ramAs (bootChoice isolation «ram_size» file (taggedOf (now («map_starts» .entry)) (now («map_ends» .entry)) (now («map_nodes» .entry))) (rangesOf (now («import_starts» .entry)) (now («import_ends» .entry)))) ⌝ }
+    requires { let map = taggedOf (now «map_starts») (now «map_ends») (now «map_nodes») in
+        let imports = rangesOf (now «import_starts») (now «import_ends») in
+        ⌜ «numa_node_count» ≡ nodesCounted (now «map_nodes») ⌝ ∗ ⌜ tagsOf map ≡ now «map_nodes» ⌝ ∗ ⌜ RowsPassed file map imports ⌝ }
+    ensures { λ r.
+        let map = taggedOf (now («map_starts» .entry)) (now («map_ends» .entry)) (now («map_nodes» .entry)) in
+        let imports = rangesOf (now («import_starts» .entry)) (now («import_ends» .entry)) in
+        ⌜ r ≡ ramAs (bootChoice isolation «ram_size» file map imports) ⌝ }
 {
     match numa_node_count {
         Counted::Refused(number) => refused_ram(number),

@@ -43,8 +43,11 @@ fn protectable_bytes<'a>(
     nodes: &'a [u32],
     protectable: &'a [bool],
 ) -> u64
-    requires { ⌜ SameLengths (now starts) (now ends) (now nodes) (now protectable) ⌝ ∗ ⌜ Ordered 0 (mapRanges (mapOf (now starts) (now ends) (now nodes) (now protectable))) ⌝ }
-    ensures { λ r. ⌜ r ≡ bytesOf (protectableIn (mapOf (now (starts .entry)) (now (ends .entry)) (now (nodes .entry)) (now (protectable .entry)))) ⌝ }
+    requires { ⌜ SameLengths (now starts) (now ends) (now nodes) (now protectable) ⌝
+        ∗ ⌜ Ordered 0 (mapRanges (mapOf (now starts) (now ends) (now nodes) (now protectable))) ⌝ }
+    ensures { λ r.
+        let map = mapOf (now (starts .entry)) (now (ends .entry)) (now (nodes .entry)) (now (protectable .entry)) in
+        ⌜ r ≡ bytesOf (protectableIn map) ⌝ }
 {
     let mut bytes: u64 = 0;
     let mut i = 0;
@@ -124,8 +127,11 @@ fn protectable_ram<'a>(
     nodes: &'a [u32],
     protectable: &'a [bool],
 ) -> Vtl2Ram
-    requires { ⌜ SameLengths (now starts) (now ends) (now nodes) (now protectable) ⌝ ∗ ⌜ Ordered 0 (mapRanges (mapOf (now starts) (now ends) (now nodes) (now protectable))) ⌝ }
-    ensures { λ r. ⌜ r ≡ ramAs (protectableChoice file (protectableIn (mapOf (now (starts .entry)) (now (ends .entry)) (now (nodes .entry)) (now (protectable .entry))))) ⌝ }
+    requires { ⌜ SameLengths (now starts) (now ends) (now nodes) (now protectable) ⌝
+        ∗ ⌜ Ordered 0 (mapRanges (mapOf (now starts) (now ends) (now nodes) (now protectable))) ⌝ }
+    ensures { λ r.
+        let map = mapOf (now (starts .entry)) (now (ends .entry)) (now (nodes .entry)) (now (protectable .entry)) in
+        ⌜ r ≡ ramAs (protectableChoice file (protectableIn map)) ⌝ }
 {
     let mut ram_starts = [0; MAX_VTL2_RAM_RANGES];
     let mut ram_ends = [0; MAX_VTL2_RAM_RANGES];
@@ -158,8 +164,11 @@ pub(crate) fn parse_host_vtl2_ram<'a>(
     nodes: &'a [u32],
     protectable: &'a [bool],
 ) -> Vtl2Ram
-    requires { ⌜ validRange file ≡ true ⌝ ∗ ⌜ SameLengths (now starts) (now ends) (now nodes) (now protectable) ⌝ ∗ ⌜ Ordered 0 (mapRanges (mapOf (now starts) (now ends) (now nodes) (now protectable))) ⌝ }
-    ensures { λ r. ⌜ r ≡ ramAs (hostChoice isolation file (mapOf (now (starts .entry)) (now (ends .entry)) (now (nodes .entry)) (now (protectable .entry)))) ⌝ }
+    requires { ⌜ validRange file ≡ true ⌝ ∗ ⌜ SameLengths (now starts) (now ends) (now nodes) (now protectable) ⌝
+        ∗ ⌜ Ordered 0 (mapRanges (mapOf (now starts) (now ends) (now nodes) (now protectable))) ⌝ }
+    ensures { λ r.
+        let map = mapOf (now (starts .entry)) (now (ends .entry)) (now (nodes .entry)) (now (protectable .entry)) in
+        ⌜ r ≡ ramAs (hostChoice isolation file map) ⌝ }
 {
     if is_hardware_isolated(isolation) {
         return isolated_ram(file, protectable_bytes(starts, ends, nodes, protectable));

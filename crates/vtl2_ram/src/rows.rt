@@ -51,7 +51,9 @@ pub(crate) fn check_rows<'a>(
     import_starts: &'a [u64],
     import_ends: &'a [u64],
 ) -> Rows
-    ensures { λ r. ⌜ r ≡ rowsAs (rowsKnown mode file («map_check» .valid) («map_check» .ascending) «map_count» (rangesOf (now («import_starts» .entry)) (now («import_ends» .entry)))) ⌝ }
+    ensures { λ r.
+        let imports = rangesOf (now («import_starts» .entry)) (now («import_ends» .entry)) in
+        ⌜ r ≡ rowsAs (rowsKnown mode file («map_check» .valid) («map_check» .ascending) «map_count» imports) ⌝ }
 {
     if !(file.is_valid() & map_check.valid) {
         return Rows::Refused(RANGE_INVALID);

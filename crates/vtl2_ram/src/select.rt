@@ -72,10 +72,14 @@ fn select_listed<'a>(
     import_starts: &'a [u64],
     import_ends: &'a [u64],
 ) -> Vtl2Ram
-    requires { ⌜ SameLengths (now «map_starts») (now «map_ends») (now «map_nodes») (now «map_protectable») ⌝
-        ∗ ⌜ RowsPassed file (taggedOf (now «map_starts») (now «map_ends») (now «map_nodes»)) (rangesOf (now «import_starts») (now «import_ends»)) ⌝
-        ∗ ⌜ «numa_node_count» ≡ nodesCounted (now «map_nodes») ⌝ }
-    ensures { λ r. ⌜ r ≡ ramAs (choiceBy mode isolation «ram_size» file (mapOf (now («map_starts» .entry)) (now («map_ends» .entry)) (now («map_nodes» .entry)) (now («map_protectable» .entry))) (rangesOf (now («import_starts» .entry)) (now («import_ends» .entry)))) ⌝ }
+    requires { let entries = taggedOf (now «map_starts») (now «map_ends») (now «map_nodes») in
+        let imports = rangesOf (now «import_starts») (now «import_ends») in
+        ⌜ SameLengths (now «map_starts») (now «map_ends») (now «map_nodes») (now «map_protectable») ⌝
+        ∗ ⌜ RowsPassed file entries imports ⌝ ∗ ⌜ «numa_node_count» ≡ nodesCounted (now «map_nodes») ⌝ }
+    ensures { λ r.
+        let map = mapOf (now («map_starts» .entry)) (now («map_ends» .entry)) (now («map_nodes» .entry)) (now («map_protectable» .entry)) in
+        let imports = rangesOf (now («import_starts» .entry)) (now («import_ends» .entry)) in
+        ⌜ r ≡ ramAs (choiceBy mode isolation «ram_size» file map imports) ⌝ }
 {
     match mode {
         MemoryAllocationMode::Host => parse_host_vtl2_ram(
@@ -112,7 +116,9 @@ fn select_from<'a>(
     import_ends: &'a [u64],
 ) -> Vtl2Ram
     requires { ⌜ Copied map nodes ⌝ }
-    ensures { λ r. ⌜ r ≡ ramAs (choiceCopied mode isolation «ram_size» file map (rangesOf (now («import_starts» .entry)) (now («import_ends» .entry)))) ⌝ }
+    ensures { λ r.
+        let imports = rangesOf (now («import_starts» .entry)) (now («import_ends» .entry)) in
+        ⌜ r ≡ ramAs (choiceCopied mode isolation «ram_size» file map imports) ⌝ }
 {
     let count = map.count;
     match check_rows(mode, file, map.check, count, import_starts, import_ends) {
@@ -156,7 +162,9 @@ pub fn select_vtl2_ram<'m, 'a>(
     import_starts: &'a [u64],
     import_ends: &'a [u64],
 ) -> Vtl2Ram
-    ensures { λ r. ⌜ r ≡ ramAs (choice mode isolation «ram_size» file (now (map .entry)) (rangesOf (now («import_starts» .entry)) (now («import_ends» .entry)))) ⌝ }
+    ensures { λ r.
+        let imports = rangesOf (now («import_starts» .entry)) (now («import_ends» .entry)) in
+        ⌜ r ≡ ramAs (choice mode isolation «ram_size» file (now (map .entry)) imports) ⌝ }
 {
     let nodes = numa_nodes(map);
     let copy = copy_entries(map);
@@ -183,7 +191,9 @@ pub fn select_from_array<'a>(
     import_starts: &'a [u64],
     import_ends: &'a [u64],
 ) -> Vtl2Ram
-    ensures { λ r. ⌜ r ≡ ramAs (choice mode isolation «ram_size» file (take count map) (rangesOf (now («import_starts» .entry)) (now («import_ends» .entry)))) ⌝ }
+    ensures { λ r.
+        let imports = rangesOf (now («import_starts» .entry)) (now («import_ends» .entry)) in
+        ⌜ r ≡ ramAs (choice mode isolation «ram_size» file (take count map) imports) ⌝ }
 {
     let entries = map;
     let count = at_most(count, MAP_ROOM);
@@ -224,7 +234,10 @@ fn select_within<'a>(
     import_ends: &'a [u64],
 ) -> Vtl2Ram
     requires { ⌜ SameLengths (now «map_starts») (now «map_ends») (now «map_nodes») (now «map_protectable») ⌝ }
-    ensures { λ r. ⌜ r ≡ ramAs (choice mode isolation «ram_size» file (mapOf (now («map_starts» .entry)) (now («map_ends» .entry)) (now («map_nodes» .entry)) (now («map_protectable» .entry))) (rangesOf (now («import_starts» .entry)) (now («import_ends» .entry)))) ⌝ }
+    ensures { λ r.
+        let map = mapOf (now («map_starts» .entry)) (now («map_ends» .entry)) (now («map_nodes» .entry)) (now («map_protectable» .entry)) in
+        let imports = rangesOf (now («import_starts» .entry)) (now («import_ends» .entry)) in
+        ⌜ r ≡ ramAs (choice mode isolation «ram_size» file map imports) ⌝ }
 {
     let check = check_ranges(map_starts, map_ends);
     let count = map_starts.len();
@@ -260,7 +273,10 @@ pub fn select_from_lists<'a>(
     import_starts: &'a [u64],
     import_ends: &'a [u64],
 ) -> Vtl2Ram
-    ensures { λ r. ⌜ r ≡ ramAs (choice mode isolation «ram_size» file (mapOf (now («map_starts» .entry)) (now («map_ends» .entry)) (now («map_nodes» .entry)) (now («map_protectable» .entry))) (rangesOf (now («import_starts» .entry)) (now («import_ends» .entry)))) ⌝ }
+    ensures { λ r.
+        let map = mapOf (now («map_starts» .entry)) (now («map_ends» .entry)) (now («map_nodes» .entry)) (now («map_protectable» .entry)) in
+        let imports = rangesOf (now («import_starts» .entry)) (now («import_ends» .entry)) in
+        ⌜ r ≡ ramAs (choice mode isolation «ram_size» file map imports) ⌝ }
 {
     let count = entry_count(map_starts, map_ends, map_nodes, map_protectable);
     select_within(
