@@ -5,7 +5,7 @@ use Rattle.memory_range.specs.Round.{roundUp, roundedUp}
 
 -- eight pages
 abbrev pub shareStep : ℕ
-shareStep = 32768
+shareStep = 32_768
 
 -- the least multiple of 32,768 that is not below the whole quotient of size and nodes
 abbrev pub shareOf : ℕ → ℕ → ℕ

@@ -1,5 +1,5 @@
 -- Laws of a node's share: 64 bits hold it exactly where it is at most 2^64 - 4096, for any count, 0 among
--- them. For the last multiple of 32,768 below 2^64 is 2^64 - 32768.
+-- them. For the last multiple of 32,768 below 2^64 is 2^64 - 32,768.
 use Prim.Native.Nat.{ℕ, _-_, _/_, _^_, _≤_, _<_}
 use mathlib.Core.Path.{_≡_, refl}
 use mathlib.Core.Bool.{true, false}

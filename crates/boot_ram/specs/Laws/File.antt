@@ -1,7 +1,7 @@
 -- What the file walk means where it is accepted: the chosen pieces hold the file's bytes, the free ones hold
 -- the other bytes of the map, each on its node; and the file lies in the map. Where it is refused, the file does not,
 -- or the pieces are too many.
-use Prim.Native.Nat.{ℕ, _%_, _<_}
+use Prim.Native.Nat.{ℕ, _<_}
 use mathlib.Core.Path.{_≡_, refl, ap, sym, _∙_}
 use mathlib.Core.Logic.{_⊎_, inl, inr, ⊎-elim}
 use mathlib.Core.Bool.{Bool, true, false, cond}
@@ -23,7 +23,7 @@ use Rattle.memory_range.specs.Laws.Range.{held}
 use Rattle.range_lists.specs.Laws.Pieces.{resultAt}
 use Rattle.range_lists.specs.Laws.Walk.{leftItem, rightItem, Says, walk-at}
 use Rattle.boot_ram.specs.File.{onNodeOf, fileVerdict, fileVerdicts, fileWalk}
-use Rattle.boot_ram.specs.Held.{holdersOn, freeIn, chosenIn, Fits, Paged}
+use Rattle.boot_ram.specs.Held.{AtPage, holdersOn, freeIn, chosenIn, Fits, Paged}
 use Rattle.boot_ram.specs.Laws.Judged.{NotRefused, RefusesAs, judged-accepted, accepted-none-refused, accepted-fits, judged-told}
 use Rattle.boot_ram.specs.Laws.Walks.{rangesFor, isNode, ranges-on}
 use Rattle.boot_ram.specs.Laws.Walks.{bothItem, rightOnly, keptWith, kept, both-bytes, right-bytes, kept-ordered, kept-paged, walk-each}
@@ -174,7 +174,7 @@ module _ (file : MemoryRange) (m : List TaggedRange) (accepted : fileWalk file m
   file-free-ordered = rw free-is (kept-ordered (file ∷ []) m one om rightOnly)
 
   -- and start and end at pages
-  pub file-paged : Paged m → file .start % 4096 ≡ 0 → file .end % 4096 ≡ 0 → Paged (fileWalk file m .chosen) × Paged (fileWalk file m .free)
+  pub file-paged : Paged m → AtPage (file .start) → AtPage (file .end) → Paged (fileWalk file m .chosen) × Paged (fileWalk file m .free)
   file-paged pm s e = (
     rw chosen-is (kept-paged (file ∷ []) m one om bothItem (s, (e, tt)) pm),
     rw free-is (kept-paged (file ∷ []) m one om rightOnly (s, (e, tt)) pm),

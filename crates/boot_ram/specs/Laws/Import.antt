@@ -1,7 +1,7 @@
 -- What the import walk means where it is accepted: the free pieces hold the bytes of the free entries that no
 -- imported range holds, each on its node; and the imported ranges lie in the file, in the free entries or, under
 -- Tdx, in the page below 4 GiB. Where it is refused, they do not, or the pieces are too many.
-use Prim.Native.Nat.{ℕ, zero, suc, _-_, _^_, _%_, _≤_, _<_}
+use Prim.Native.Nat.{ℕ, zero, suc, _-_, _^_, _≤_, _<_}
 use mathlib.Core.Path.{_≡_, refl, ap, sym, _∙_}
 use mathlib.Core.Logic.{_⊎_, inl, inr, ⊎-elim}
 use mathlib.Core.Bool.{Bool, true, false, cond, _&&_, _||_, not, or-true, and-eq-true-iff, true≢false}

@@ -2,7 +2,7 @@
 -- from the node's own free entries, no byte twice; in whole pages. A node that is not asked for gets nothing.
 -- And a taking that is refused has a node whose free bytes are below its need, or too many pieces.
 -- Each is shown of the taking of one need from a list of entries first.
-use Prim.Native.Nat.{ℕ, _+_, _-_, _%_, _≤_, _<_}
+use Prim.Native.Nat.{ℕ, _+_, _-_, _≤_, _<_}
 use mathlib.Core.Path.{_≡_, refl, sym, _∙_}
 use mathlib.Core.Bool.{Bool, true, false, cond, true≢false, and-false, or-true}
 use mathlib.Core.Logic.{_⊎_, inl, inr, ⊎-elim}
@@ -21,7 +21,7 @@ use Rattle.memory_range.specs.Bytes.{holders, All}
 use Rattle.memory_range.specs.Laws.Bytes.{Place, below, inside, above, place}
 use Rattle.range_lists.specs.Laws.Node.{AscendsFrom, has, not-before}
 use Rattle.memory_range.specs.Laws.Round.{down-below, down-near}
-use Rattle.boot_ram.specs.Held.{holdersOn, chosenIn, Fits, Paged, onNode, bytesOf}
+use Rattle.boot_ram.specs.Held.{holdersOn, chosenIn, Fits, AtPage, Paged, onNode, bytesOf}
 use Rattle.boot_nodes.specs.Share.{shareStep}
 use Rattle.boot_take.specs.Take.{takenStart, takenOf, needOn, takeFrom, takeOn, takeAll, taking}
 use Rattle.boot_ram.specs.Verdict.{Verdict, choose, refuse, maxChosen}
@@ -52,7 +52,7 @@ module _ (need : ℕ) (r : MemoryRange) where
       go (inside l h e) = rw e (most (holds (takenOf need r) a))
       go (above h e) = rw (e, le-ltb a (r .end) h, and-false) (omega arith)
 
-  taken-page : r .start % 4096 ≡ 0 → takenStart need r % 4096 ≡ 0
+  taken-page : AtPage (r .start) → AtPage (takenStart need r)
   taken-page e = omega arith
 
 -- what is left of a need behind an entry

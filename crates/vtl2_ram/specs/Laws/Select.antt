@@ -97,8 +97,8 @@ module _ (isolation : IsolationType) (size : OptionU64) (file : MemoryRange) (ma
 
 -- a map is accepted: one entry with the file in it, and no size given
 pub one-accepted :
-    choice Vtl2 isolation.None option.None (range 2097152 2162688) (record { range = range 0 4194304; vnode = 0; «mem_type» = Vtl2Protectable } ∷ []) []
-    ≡ chosen (tagged 2097152 2162688 0 ∷ [])
+    choice Vtl2 isolation.None option.None (range 0x200000 0x210000) (record { range = range 0 0x400000; vnode = 0; «mem_type» = Vtl2Protectable } ∷ []) []
+    ≡ chosen (tagged 0x200000 0x210000 0 ∷ [])
 unfolding choice rowsKnown bootChoice bootParts besideFile fileWalk afterImports importWalk taking walkFrom
 one-accepted = refl
 
