@@ -3,7 +3,7 @@ use Prim.Native.Nat.{ℕ, _*_, _%_, _^_}
 use mathlib.Core.Path.{_≡_}
 use mathlib.Core.Bool.{Bool, true, false, cond, not, _&&_}
 use mathlib.Core.List.{List, [], _∷_, _++_}
-use mathlib.Core.Option.{Option}
+use mathlib.Core.Option.{Option, none}
 use lib.Dec.{eqb, leb, ltb}
 use lib.ListN.{length, drop}
 use Rattle.refusal.specs.Number.{rangeInvalid, rangesNotAscending}
@@ -20,13 +20,15 @@ use Rattle.host_params.specs.declared.MemoryAllocationMode.the-variants.{Host, 
 use Rattle.host_params.specs.declared.MemoryEntry.{MemoryEntry}
 use Rattle.host_params.specs.declared.OptionU64.{OptionU64}
 use Rattle.host_map.specs.declared.rows.RangeCheck.{RangeCheck}
-use Rattle.host_map.specs.Map.{typeOf}
+use Rattle.host_map.specs.Map.{typeOf, mapRanges}
+use Rattle.host_map.specs.Rows.{checkStart, checkedAll}
 use Rattle.boot_ram.specs.Verdict.{maxChosen}
 use Rattle.vtl2_ram.specs.declared.ram.Selection.{Selection}
 use Rattle.vtl2_ram.specs.declared.ram.Selection.the-variants.{Chosen, Refused}
 use Rattle.vtl2_ram.specs.declared.ram.Vtl2Ram.{Vtl2Ram}
 use Rattle.vtl2_ram.specs.Choice.{Choice, refused, chosen, unless}
 use Rattle.vtl2_ram.specs.Select.{choice}
+use Rattle.plan_input.specs.Room.{mapRoom, importRoom}
 use Rattle.table_words.specs.Code.{doneCode, noRoom, badNumber}
 use Rattle.table_words.specs.List.{rangesIn}
 
@@ -130,3 +132,9 @@ rowsOf file map imports =
     (refusedIf (not (validRange file && map .valid && imports .valid)) rangeInvalid
     ∷ refusedIf (not (map .ascending && imports .ascending)) rangesNotAscending
     ∷ [])
+
+-- the same of both lists as words, where one is longer than its room; otherwise selection looks at these rows itself
+abbrev pub rowsLong : MemoryRange → List ℕ → List ℕ → Option ℕ
+rowsLong file map imports =
+    cond (leb (length map) (mapRoom * 4) && leb (length imports) (importRoom * 2)) none
+    (rowsOf file (checkedAll checkStart (mapRanges (wordEntries map))) (checkedAll checkStart (rangesIn imports)))

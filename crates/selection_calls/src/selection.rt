@@ -11,7 +11,7 @@ ghost use Rattle.host_map.specs.Rows.{checkStart, checkedAll};
 ghost use Rattle.boot_ram.specs.Verdict.{maxChosen};
 ghost use Rattle.vtl2_ram.specs.Select.{choice};
 ghost use Rattle.table_words.specs.List.{rangesIn};
-ghost use Rattle.selection_calls.specs.Selection.{modeOf, isolationOf, isProtectableWord, entryStands, entryOf, wordEntries, mapStands, numbersStand, ramWords, ramSize, rowsOf, countIn, choiceIn, asked, choiceCode, ramAfter, countOr, Told};
+ghost use Rattle.selection_calls.specs.Selection.{modeOf, isolationOf, isProtectableWord, entryStands, entryOf, wordEntries, mapStands, numbersStand, ramWords, ramSize, rowsOf, rowsLong, countIn, choiceIn, asked, choiceCode, ramAfter, countOr, Told};
 use host_map::MAP_ROOM;
 use host_map::RangeCheck;
 use host_map::put_entry;
@@ -42,6 +42,12 @@ const ENTRY_WORDS: usize = 4;
 
 // The words of an entry of the RAM: start, end, node.
 const RAM_ENTRY_WORDS: usize = 3;
+
+// The words of as many entries of the map as there is room for.
+const MAP_WORDS: usize = MAP_ROOM * ENTRY_WORDS;
+
+// The words of as many imported ranges as there is room for.
+const IMPORT_WORDS: usize = IMPORT_ROOM * 2;
 
 // Room for the most entries that are chosen.
 const RAM_WORDS: usize = MAX_VTL2_RAM_RANGES * RAM_ENTRY_WORDS;
@@ -117,39 +123,48 @@ fn numbers_stand(mode: u8, isolation: u8, map: &[u64], imports: &[u64]) -> bool
     (mode <= 1) & (isolation <= 4) & map_stands(map) & (imports.len() % 2 == 0)
 }
 
-// How many entries a map has, and rows 4 and 5 of them.
-struct MapRead {
-    count: usize,
-    check: RangeCheck,
-}
-
-// Stores the fields of the map's entries. What there is no room for is counted and looked at.
+// Stores the fields of the map's entries. What there is no room for is counted alone.
 fn read_map(
     words: &[u64],
     starts: &mut [u64],
     ends: &mut [u64],
     nodes: &mut [u32],
     protectable: &mut [bool],
-) -> MapRead
+) -> usize
     requires { ⌜ mapStands (now words) ≡ true ⌝ }
-    ensures { λ r. ⌜ r .count ≡ length (wordEntries (now (words .entry))) ⌝
-        ∗ ⌜ r .check ≡ checkedAll checkStart (mapRanges (wordEntries (now (words .entry)))) ⌝ }
+    ensures { λ r. ⌜ r ≡ length (wordEntries (now (words .entry))) ⌝ }
     ensures { λ _. ⌜ now (starts .exit) ≡ sets (now (starts .entry)) 0 (mapStarts (wordEntries (now (words .entry)))) ⌝ }
     ensures { λ _. ⌜ now (ends .exit) ≡ sets (now (ends .entry)) 0 (mapEnds (wordEntries (now (words .entry)))) ⌝ }
     ensures { λ _. ⌜ now (nodes .exit) ≡ sets (now (nodes .entry)) 0 (mapNodes (wordEntries (now (words .entry)))) ⌝ }
     ensures { λ _. ⌜ now (protectable .exit) ≡ sets (now (protectable .entry)) 0 (mapProtectable (wordEntries (now (words .entry)))) ⌝ }
 {
     let mut count = 0;
-    let mut check = RangeCheck::start();
     let mut at = 0;
     while at < words.len() {
         let entry = entry_of(words[at], words[at + 1], words[at + 2], words[at + 3]);
         put_entry(starts, ends, nodes, protectable, count, entry);
-        check = check.with(entry.range);
         count += 1;
         at += ENTRY_WORDS;
     }
-    MapRead { count, check }
+    count
+}
+
+// Rows 4 and 5 of the map.
+fn check_map(words: &[u64]) -> RangeCheck
+    requires { ⌜ mapStands (now words) ≡ true ⌝ }
+    ensures { λ r. ⌜ r ≡ checkedAll checkStart (mapRanges (wordEntries (now (words .entry)))) ⌝ }
+{
+    let mut check = RangeCheck::start();
+    let mut at = 0;
+    while at < words.len() {
+        let range = MemoryRange {
+            start: words[at],
+            end: words[at + 1],
+        };
+        check = check.with(range);
+        at += ENTRY_WORDS;
+    }
+    check
 }
 
 // Rows 4 and 5 of the imported ranges.
@@ -223,8 +238,19 @@ fn check_rows(file: MemoryRange, map: RangeCheck, imports: RangeCheck) -> Rows
     Rows::Passed
 }
 
-// Selection is given as much of both lists as there is room for, once rows 4 and 5 are passed by all of
-// them.
+// Rows 4 and 5 of the whole of both lists, where one is longer than its room. Otherwise selection is given
+// the whole, and looks at these rows itself.
+fn check_long(file: MemoryRange, map: &[u64], imports: &[u64]) -> Rows
+    requires { ⌜ mapStands (now map) ≡ true ⌝ }
+    ensures { λ r. ⌜ r ≡ rowsAs (rowsLong file (now (map .entry)) (now (imports .entry))) ⌝ }
+{
+    if (map.len() <= MAP_WORDS) & (imports.len() <= IMPORT_WORDS) {
+        return Rows::Passed;
+    }
+    check_rows(file, check_map(map), check_imports(imports))
+}
+
+// Selection is given as much of both lists as there is room for.
 fn select_read(
     mode: MemoryAllocationMode,
     isolation: IsolationType,
@@ -245,7 +271,7 @@ fn select_read(
     let mut map_protectable = [false; MAP_ROOM];
     let mut import_starts = [0; IMPORT_ROOM];
     let mut import_ends = [0; IMPORT_ROOM];
-    let listed = read_map(
+    let map_count = read_map(
         map,
         &mut map_starts,
         &mut map_ends,
@@ -253,10 +279,10 @@ fn select_read(
         &mut map_protectable,
     );
     read_ranges(imports, &mut import_starts, &mut import_ends);
-    match check_rows(file, listed.check, check_imports(imports)) {
+    match check_long(file, map, imports) {
         Rows::Refused(number) => number,
         Rows::Passed => {
-            let map_count = at_most(listed.count, MAP_ROOM);
+            let map_count = at_most(map_count, MAP_ROOM);
             let import_count = at_most(imports.len() / 2, IMPORT_ROOM);
             let chosen = select_from_lists(
                 mode,

@@ -77,6 +77,14 @@ stands-at ws at e h =
     let entry = and-eq-true-iff (ltb (getD ws (at + 2) 0) (2 ^ 32)) (leb (getD ws (at + 3) 0) 1) .0 (both .0) in
     record { whole = w; node = ltb-true _ _ (entry .0); behind = both .1 }
 
+-- a map has no more entries than words for them
+pub entries-few : (ws : List ℕ) → length (wordEntries ws) * 4 ≤ length ws
+entries-few [] = omega arith
+entries-few (s ∷ []) = omega arith
+entries-few (s ∷ e ∷ []) = omega arith
+entries-few (s ∷ e ∷ n ∷ []) = omega arith
+entries-few (s ∷ e ∷ n ∷ t ∷ ws) = omega (arith, entries-few ws)
+
 -- the RAM has three words for each entry
 pub words-length : (xs : List TaggedRange) → length (ramWords xs) ≡ 3 * length xs
 words-length [] = refl

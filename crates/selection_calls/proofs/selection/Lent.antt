@@ -1,8 +1,9 @@
 -- Laws of what selection is lent: as much of the map and of the imported ranges as arrays have room for.
-use Prim.Native.Nat.{ℕ, _/_, min}
+use Prim.Native.Nat.{ℕ, _*_, _/_, _≤_, min}
 use mathlib.Core.Path.{_≡_, refl, sym, ap, _∙_}
 use mathlib.Core.Bool.{Bool, false}
 use mathlib.Core.List.{List, [], _∷_, map}
+use native.Mathlib.Nat.{div-mul-le-self}
 use lib.ListN.{length, take, replicate, length-replicate, length-map}
 use lib.Seq.{sets}
 use Rattle.memory_range.specs.List.{rangesOf}
@@ -37,11 +38,17 @@ ends-column : (rs : List (List ℕ)) → column 1 rs ≡ endsIn (map rangeIn rs)
 ends-column [] = refl
 ends-column (r ∷ rs) = rw (ends-column rs)
 
+length-ranges : (ws : List ℕ) → length (rangesIn ws) ≡ length ws / 2
+length-ranges ws = length-map (rangeRows ws) rangeIn ∙ length-rows 2 (length ws / 2) ws
+
+-- there are no more ranges than words for them
+pub imports-few : (ws : List ℕ) → length (rangesIn ws) * 2 ≤ length ws
+imports-few ws = rw (length-ranges ws) (div-mul-le-self (length ws) 2)
+
 pub imports-lent : (ws : List ℕ) {n : ℕ} {ss es : List ℕ} → ss ≡ sets (zeros importRoom) 0 (column 0 (rangeRows ws))
     → es ≡ sets (zeros importRoom) 0 (column 1 (rangeRows ws)) → n ≡ min (length ws / 2) importRoom
     → rangesOf (take n ss) (take n es) ≡ take importRoom (rangesIn ws)
 imports-lent ws {n} s e h =
     let z : length (zeros importRoom) ≡ importRoom = length-replicate {A = ℕ} importRoom 0 in
-    let k : length (rangesIn ws) ≡ length ws / 2 = length-map (rangeRows ws) rangeIn ∙ length-rows 2 (length ws / 2) ws in
     rw (s, e, starts-column (rangeRows ws), ends-column (rangeRows ws))
-    (stored-ranges importRoom (rangesIn ws) (zeros importRoom) (zeros importRoom) n z z (h ∙ ap (λ (j : ℕ). min j importRoom) (sym k)))
+    (stored-ranges importRoom (rangesIn ws) (zeros importRoom) (zeros importRoom) n z z (h ∙ ap (λ (j : ℕ). min j importRoom) (sym (length-ranges ws))))

@@ -1,14 +1,14 @@
 -- Laws of what a selection comes to: as it is asked for in numbers, as its answer holds it, and as it is told.
-use Prim.Native.Nat.{ℕ, _≤_, _<_}
+use Prim.Native.Nat.{ℕ, _*_, _≤_, _<_}
 use mathlib.Core.Path.{_≡_, refl, ap, ap₂, _∙_}
-use mathlib.Core.Bool.{Bool, true, false, _&&_, not, and-eq-true-iff}
+use mathlib.Core.Bool.{Bool, true, false, cond, _&&_, not, and-eq-true-iff}
 use mathlib.Core.List.{List, [], _∷_}
-use mathlib.Core.Option.{none, some}
+use mathlib.Core.Option.{Option, none, some}
 use native.Mathlib.Omega.{arith}
-use borrow.Author.Tests.{lt-ltb, le-ltb}
+use borrow.Author.Tests.{lt-ltb, le-ltb, leb-true}
 use lib.Dec.{leb}
 use lib.ListN.{length, take}
-use lib.Seq.{sets}
+use lib.Seq.{sets, take-all}
 use Rattle.refusal.specs.Number.{rangeInvalid, rangesNotAscending, mapCount}
 use Rattle.refusal.specs.Rows.{refusedIf, downward}
 use Rattle.memory_range.specs.declared.range.MemoryRange.{MemoryRange}
@@ -36,8 +36,9 @@ use Rattle.plan_input.specs.Room.{mapRoom, importRoom}
 use Rattle.plan_input.specs.Laws.Room.{choice-room}
 use Rattle.table_words.specs.Code.{doneCode, noRoom, badNumber}
 use Rattle.table_words.specs.List.{rangesIn}
-use Rattle.selection_calls.specs.Selection.{modeOf, isolationOf, wordEntries, mapStands, numbersStand, ramWords, ramSize, asked, choiceCode, ramAfter, countOr, Told, choiceIn, countIn, rowsOf}
-use Rattle.selection_calls.proofs.selection.Laws.{words-length, sets-first}
+use Rattle.selection_calls.specs.Selection.{modeOf, isolationOf, wordEntries, mapStands, numbersStand, ramWords, ramSize, asked, choiceCode, ramAfter, countOr, Told, choiceIn, countIn, rowsOf, rowsLong}
+use Rattle.selection_calls.proofs.selection.Laws.{words-length, sets-first, entries-few}
+use Rattle.selection_calls.proofs.selection.Lent.{imports-few}
 
 -- its three equations
 pub told-parts : {c : Choice} {ram ram′ : List ℕ} {count count′ r : ℕ} → Told c ram ram′ count count′ r
@@ -95,6 +96,10 @@ module _ (mode : MemoryAllocationMode) (isolation : IsolationType) (size : Optio
   pub cut-few : length (entriesOf cut) ≤ maxChosen
   cut-few = few cut (λ xs e. chosen-in-order isolation size file (take mapRoom m) (take importRoom is) xs mode e .count)
 
+  -- nothing is cut off where there is room for both lists
+  fits-same : length m ≤ mapRoom → length is ≤ importRoom → cut ≡ all
+  fits-same h g = rw (take-all mapRoom m h, take-all importRoom is g)
+
   -- by what was seen of all ranges
   module _ {k j : RangeCheck} (a : k ≡ checkedAll checkStart (mapRanges m)) (b : j ≡ checkedAll checkStart is) where
     valid-same : (validRange file && k .valid && j .valid) ≡ (validRange file && (allValid (mapRanges m) && allValid is))
@@ -103,20 +108,48 @@ module _ (mode : MemoryAllocationMode) (isolation : IsolationType) (size : Optio
     ascend-same : (k .ascending && j .ascending) ≡ (ascend (mapRanges m) && ascend is)
     ascend-same = ap₂ (λ (x y : Bool). x && y) (ascending-by (mapRanges m) a) (ascending-by is b)
 
-    pub words-refused : {n : ℕ} → rowsOf file k j ≡ some n → all ≡ refused n
+    words-refused : {n : ℕ} → rowsOf file k j ≡ some n → all ≡ refused n
     unfolding choice rowsKnown
     words-refused e =
         let valid = validRange file && (allValid (mapRanges m) && allValid is) in
         let uncounted = not (countsGood mode (length (mapRanges m)) (length is)) in
         rw (rows-more valid (ascend (mapRanges m) && ascend is) uncounted (rw (valid-same, ascend-same) at e))
 
-    pub words-passed : rowsOf file k j ≡ none → cut ≡ all
+    words-passed : rowsOf file k j ≡ none → cut ≡ all
     words-passed e =
         let p = both-passed _ _ (rw (valid-same, ascend-same) at e) in
         let v = and-eq-true-iff (validRange file) (allValid (mapRanges m) && allValid is) .0 (p .0) in
         let w = and-eq-true-iff (allValid (mapRanges m)) (allValid is) .0 (v .1) in
         let o = and-eq-true-iff (ascend (mapRanges m)) (ascend is) .0 (p .1) in
         choice-room mode isolation size file m is (v .0) (w .0) (w .1) (o .0) (o .1)
+
+-- by rows 4 and 5 of lists that there is not room for
+module _ (mode : MemoryAllocationMode) (isolation : IsolationType) (size : OptionU64) (file : MemoryRange) (map imports : List ℕ) where
+  abbrev fits : Bool
+  fits = leb (length map) (mapRoom * 4) && leb (length imports) (importRoom * 2)
+
+  abbrev seen : Option ℕ
+  seen = rowsOf file (checkedAll checkStart (mapRanges (wordEntries map))) (checkedAll checkStart (rangesIn imports))
+
+  pub long-refused : {n : ℕ} → rowsLong file map imports ≡ some n → all mode isolation size file (wordEntries map) (rangesIn imports) ≡ refused n
+  long-refused {n} e = go fits e
+    where
+      go : (b : Bool) → cond b none seen ≡ some n → all mode isolation size file (wordEntries map) (rangesIn imports) ≡ refused n
+      go true e = absurd (let z : _≡_ {A = ℕ} 0 1 = cc in omega arith)
+      go false e = words-refused mode isolation size file (wordEntries map) (rangesIn imports) refl refl e
+
+  pub long-passed : rowsLong file map imports ≡ none
+      → cut mode isolation size file (wordEntries map) (rangesIn imports) ≡ all mode isolation size file (wordEntries map) (rangesIn imports)
+  long-passed e = go fits refl e
+    where
+      go : (b : Bool) → fits ≡ b → cond b none seen ≡ none
+          → cut mode isolation size file (wordEntries map) (rangesIn imports) ≡ all mode isolation size file (wordEntries map) (rangesIn imports)
+      go true f e =
+          let both = and-eq-true-iff (leb (length map) (mapRoom * 4)) (leb (length imports) (importRoom * 2)) .0 f in
+          fits-same mode isolation size file (wordEntries map) (rangesIn imports)
+          (omega (arith, entries-few map, leb-true (length map) (mapRoom * 4) (both .0)))
+          (omega (arith, imports-few imports, leb-true (length imports) (importRoom * 2) (both .1)))
+      go false f e = words-passed mode isolation size file (wordEntries map) (rangesIn imports) refl refl e
 
 -- numbers that stand for something, the map among them
 pub map-among : (mode isolation : ℕ) (map imports : List ℕ) → numbersStand mode isolation map imports ≡ true → mapStands map ≡ true

@@ -1,5 +1,5 @@
--- `selection::select_read` meets its contract: rows 4 and 5 by what was seen of both lists, and then selection from as much of them
--- as there is room for, which comes to the same.
+-- `selection::select_read` meets its contract: rows 4 and 5 of lists that there is not room for, and then selection from as much of
+-- them as there is room for, which comes to the same.
 use Prim.Native.Nat.{ℕ, _≤_, min}
 use mathlib.Core.Path.{_≡_, sym, ap, _∙_}
 use mathlib.Core.Bool.{false}
@@ -23,14 +23,14 @@ use Rattle.plan_input.specs.Room.{mapRoom, importRoom}
 use Rattle.table_words.specs.List.{rangesIn, rangeRows, column}
 use Rattle.selection_calls.specs.Selection.{wordEntries, choiceIn, countIn}
 use Rattle.selection_calls.proofs.selection.Lent.{map-lent, imports-lent}
-use Rattle.selection_calls.proofs.selection.Told.{told-refused, choice-again, count-again, cut-few, words-refused, words-passed}
+use Rattle.selection_calls.proofs.selection.Told.{told-refused, choice-again, count-again, cut-few, long-refused, long-passed}
 use Rattle.selection_calls.proofs.selection.select_read.Statement.{statement}
 use Rattle.selection_calls.proofs.selection.select_read.Tie as tie
 
 -- what is read
-module _ (k : tie.After-check-rows) where
+module _ (k : tie.After-check-long) where
   abbrev ranges : tie.After-read-ranges
-  ranges = k .before .before .before .before
+  ranges = k .before .before .before
 
   abbrev listed : tie.After-read-map
   listed = ranges .before .before .before .before .before .before .before
@@ -48,10 +48,9 @@ returns : tie.Need-returns
 returns c =
     let k = c .before .before .before in
     let a = entry k .args in
-    let e = rows-refused _ (sym (k .check-rows .ensures) ∙ c .before .number .given .1) in
+    let e = rows-refused _ (sym (k .check-long .ensures) ∙ c .before .number .given .1) in
     told-refused
-    (words-refused (a .mode) (a .isolation) (a .ram-size) (a .file) (map k) (imports k) (listed k .read-map .ensures .1 .0)
-    (k .before .check-imports .ensures) e)
+    (long-refused (a .mode) (a .isolation) (a .ram-size) (a .file) (now (a .map)) (now (a .imports)) e)
 
 -- what is at most the room of an array is within it, whatever is stored there
 in-room : {A : Type 0} (z : A) (room count : ℕ) (xs : List A) {k : ℕ} {l : List A} → l ≡ sets (replicate room z) 0 xs → k ≡ min count room → k ≤ length l
@@ -61,14 +60,14 @@ in-room z room count xs e h =
 
 -- what is lent of the map and of the imported ranges
 module _ (n : tie.After-at-most2) where
-  abbrev rows : tie.After-check-rows
+  abbrev rows : tie.After-check-long
   rows = n .before .before .before .before
 
   map-held : let l = listed rows .read-map .last .1 in let k = n .before .at-most .result in
       mapOf (take k (l .0)) (take k (l .1 .0)) (take k (l .1 .1 .0)) (take k (l .1 .1 .1 .0)) ≡ take mapRoom (map rows)
   map-held =
       let e = listed rows .read-map .ensures in
-      let l = e .1 .1 in
+      let l = e .1 in
       map-lent (map rows) (l .0) (l .1 .0) (l .1 .1 .0) (l .1 .1 .1) (e .0) (n .before .at-most .ensures)
 
   imports-held : let l = ranges rows .read-ranges .last .1 in let k = n .at-most2 .result in
@@ -79,7 +78,7 @@ module _ (n : tie.After-at-most2) where
   map-room : let l = listed rows .read-map .last .1 in let k = n .before .at-most .result in
       (k ≤ length (l .0)) × (k ≤ length (l .1 .0)) × (k ≤ length (l .1 .1 .0)) × (k ≤ length (l .1 .1 .1 .0))
   map-room =
-      let l = listed rows .read-map .ensures .1 .1 in
+      let l = listed rows .read-map .ensures .1 in
       let h = n .before .at-most .ensures in (
         in-room 0 mapRoom _ (mapStarts (map rows)) (l .0) h,
         in-room 0 mapRoom _ (mapEnds (map rows)) (l .1 .0) h,
@@ -124,9 +123,8 @@ returns-2 c =
     let k = rows (lent f) in
     let a = entry k .args in
     let few = cut-few (a .mode) (a .isolation) (a .ram-size) (a .file) (map k) (imports k) in
-    let passed = rows-none _ (sym (k .check-rows .ensures) ∙ lent f .before .before .enum-told .given .1) in
-    let same = words-passed (a .mode) (a .isolation) (a .ram-size) (a .file) (map k) (imports k) (listed k .read-map .ensures .1 .0)
-    (k .before .check-imports .ensures) passed in
+    let passed = rows-none _ (sym (k .check-long .ensures) ∙ lent f .before .before .enum-told .given .1) in
+    let same = long-passed (a .mode) (a .isolation) (a .ram-size) (a .file) (now (a .map)) (now (a .imports)) passed in
     rw (ap choiceIn (held f) ∙ choice-again (cut f) few ∙ same) at (w .store-ram .ensures)
 
 pub select-read-spec : {M : Type 1} → statement M
@@ -140,7 +138,6 @@ select-read-spec =
     (λ c κs. search needs)
     (λ c. search needs)
     (λ c. search needs)
-    (λ c κs. search needs)
     (λ c κs. search needs)
     (λ c κs. search needs)
     (λ c. search needs)
