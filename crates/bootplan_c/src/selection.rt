@@ -25,9 +25,13 @@ pub extern "C" fn bootplan_select_ram(
     ram: &mut [u64],
     count: &mut usize,
 ) -> u8
-    ensures { λ r. ⌜ r ≡ choiceCode (asked mode isolation (givenNumber «size_given» «ram_size») (range «file_start» «file_end») (now (map .entry)) (now (imports .entry)) (now (ram .entry))) ⌝
-        ∗ ⌜ now (ram .exit) ≡ ramAfter (asked mode isolation (givenNumber «size_given» «ram_size») (range «file_start» «file_end») (now (map .entry)) (now (imports .entry)) (now (ram .entry))) (now (ram .entry)) ⌝
-        ∗ ⌜ now (count .exit) ≡ countOr (asked mode isolation (givenNumber «size_given» «ram_size») (range «file_start» «file_end») (now (map .entry)) (now (imports .entry)) (now (ram .entry))) (now (count .entry)) ⌝ }
+    ensures { λ r.
+        let size = givenNumber «size_given» «ram_size» in
+        let file = range «file_start» «file_end» in
+        let answer = asked mode isolation size file (now (map .entry)) (now (imports .entry)) (now (ram .entry)) in
+        ⌜ r ≡ choiceCode answer ⌝
+        ∗ ⌜ now (ram .exit) ≡ ramAfter answer (now (ram .entry)) ⌝
+        ∗ ⌜ now (count .exit) ≡ countOr answer (now (count .entry)) ⌝ }
 {
     let file = MemoryRange {
         start: file_start,

@@ -1,5 +1,5 @@
 // Selections. A list of entries is written as runs of seven numbers: start, length, step, count, node,
-// step of the node, and 1 where the entries are protectable as protectable. Entry i of a run starts i steps
+// step of the node, and 1 where its entries are protectable. Entry i of a run starts i steps
 // behind the first one.
 use super::case::Case;
 use super::case::Numbers;

@@ -132,11 +132,14 @@ fn read_map(
     protectable: &mut [bool],
 ) -> usize
     requires { ⌜ mapStands (now words) ≡ true ⌝ }
-    ensures { λ r. ⌜ r ≡ length (wordEntries (now (words .entry))) ⌝ }
-    ensures { λ _. ⌜ now (starts .exit) ≡ sets (now (starts .entry)) 0 (mapStarts (wordEntries (now (words .entry)))) ⌝ }
-    ensures { λ _. ⌜ now (ends .exit) ≡ sets (now (ends .entry)) 0 (mapEnds (wordEntries (now (words .entry)))) ⌝ }
-    ensures { λ _. ⌜ now (nodes .exit) ≡ sets (now (nodes .entry)) 0 (mapNodes (wordEntries (now (words .entry)))) ⌝ }
-    ensures { λ _. ⌜ now (protectable .exit) ≡ sets (now (protectable .entry)) 0 (mapProtectable (wordEntries (now (words .entry)))) ⌝ }
+    ensures { λ r.
+        let map = wordEntries (now (words .entry)) in ⌜
+        (r ≡ length map)
+        × (now (starts .exit) ≡ sets (now (starts .entry)) 0 (mapStarts map))
+        × (now (ends .exit) ≡ sets (now (ends .entry)) 0 (mapEnds map))
+        × (now (nodes .exit) ≡ sets (now (nodes .entry)) 0 (mapNodes map))
+        × (now (protectable .exit) ≡ sets (now (protectable .entry)) 0 (mapProtectable map))
+        ⌝ }
 {
     let mut count = 0;
     let mut at = 0;
@@ -194,7 +197,9 @@ fn write_ram<'a>(
     ram: &mut [u64],
 )
     requires { ⌜ (count ≤ length (now starts)) × (count ≤ length (now ends)) × (count ≤ length (now nodes)) × (count ≤ maxChosen) ⌝ }
-    ensures { λ _. ⌜ now (ram .exit) ≡ sets (now (ram .entry)) 0 (ramWords (firstTagged count (now (starts .entry)) (now (ends .entry)) (now (nodes .entry)))) ⌝ }
+    ensures { λ _.
+        let entries = firstTagged count (now (starts .entry)) (now (ends .entry)) (now (nodes .entry)) in
+        ⌜ now (ram .exit) ≡ sets (now (ram .entry)) 0 (ramWords entries) ⌝ }
 {
     let mut i = 0;
     while i < count {
@@ -262,8 +267,9 @@ fn select_read(
     count: &mut usize,
 ) -> u8
     requires { ⌜ (mapStands (now map) ≡ true) × (ramSize ≤ length (now ram)) ⌝ }
-    ensures { λ r. ⌜ Told (choice mode isolation «ram_size» file (wordEntries (now (map .entry))) (rangesIn (now (imports .entry))))
-        (now (ram .entry)) (now (ram .exit)) (now (count .entry)) (now (count .exit)) r ⌝ }
+    ensures { λ r.
+        let chosen = choice mode isolation «ram_size» file (wordEntries (now (map .entry))) (rangesIn (now (imports .entry))) in
+        ⌜ Told chosen (now (ram .entry)) (now (ram .exit)) (now (count .entry)) (now (count .exit)) r ⌝ }
 {
     let mut map_starts = [0; MAP_ROOM];
     let mut map_ends = [0; MAP_ROOM];
@@ -313,9 +319,11 @@ pub fn select_words(
     ram: &mut [u64],
     count: &mut usize,
 ) -> u8
-    ensures { λ r. ⌜ r ≡ choiceCode (asked mode isolation «ram_size» file (now (map .entry)) (now (imports .entry)) (now (ram .entry))) ⌝
-        ∗ ⌜ now (ram .exit) ≡ ramAfter (asked mode isolation «ram_size» file (now (map .entry)) (now (imports .entry)) (now (ram .entry))) (now (ram .entry)) ⌝
-        ∗ ⌜ now (count .exit) ≡ countOr (asked mode isolation «ram_size» file (now (map .entry)) (now (imports .entry)) (now (ram .entry))) (now (count .entry)) ⌝ }
+    ensures { λ r.
+        let answer = asked mode isolation «ram_size» file (now (map .entry)) (now (imports .entry)) (now (ram .entry)) in
+        ⌜ r ≡ choiceCode answer ⌝
+        ∗ ⌜ now (ram .exit) ≡ ramAfter answer (now (ram .entry)) ⌝
+        ∗ ⌜ now (count .exit) ≡ countOr answer (now (count .entry)) ⌝ }
 {
     if ram.len() < RAM_WORDS {
         return BOOTPLAN_NO_ROOM;

@@ -81,7 +81,7 @@ returns : tie.Need-returns Inv-loop μ-loop
 returns c =
     let l = c .before in
     let i = rw (left-none (words l) (l .loop .at) (c .loop-test .left) .1) at (l .loop .inv) in
-    (omega (arith, i .2), (stores-none (i .3), (stores-none (i .4), (stores-none (i .5), stores-none (i .6)))))
+    (omega (arith, i .2), stores-none (i .3), stores-none (i .4), stores-none (i .5), stores-none (i .6))
 
 pub read-map-spec : {M : Type 1} → statement M
 read-map-spec =

@@ -66,9 +66,7 @@ module _ (n : tie.After-at-most2) where
   map-held : let l = listed rows .read-map .last .1 in let k = n .before .at-most .result in
       mapOf (take k (l .0)) (take k (l .1 .0)) (take k (l .1 .1 .0)) (take k (l .1 .1 .1 .0)) ≡ take mapRoom (map rows)
   map-held =
-      let e = listed rows .read-map .ensures in
-      let l = e .1 in
-      map-lent (map rows) (l .0) (l .1 .0) (l .1 .1 .0) (l .1 .1 .1) (e .0) (n .before .at-most .ensures)
+      let e = listed rows .read-map .ensures in map-lent (map rows) (e .1) (e .2) (e .3) (e .4) (e .0) (n .before .at-most .ensures)
 
   imports-held : let l = ranges rows .read-ranges .last .1 in let k = n .at-most2 .result in
       rangesOf (take k (l .0)) (take k (l .1 .0)) ≡ take importRoom (imports rows)
@@ -78,12 +76,12 @@ module _ (n : tie.After-at-most2) where
   map-room : let l = listed rows .read-map .last .1 in let k = n .before .at-most .result in
       (k ≤ length (l .0)) × (k ≤ length (l .1 .0)) × (k ≤ length (l .1 .1 .0)) × (k ≤ length (l .1 .1 .1 .0))
   map-room =
-      let l = listed rows .read-map .ensures .1 in
+      let e = listed rows .read-map .ensures in
       let h = n .before .at-most .ensures in (
-        in-room 0 mapRoom _ (mapStarts (map rows)) (l .0) h,
-        in-room 0 mapRoom _ (mapEnds (map rows)) (l .1 .0) h,
-        in-room 0 mapRoom _ (mapNodes (map rows)) (l .1 .1 .0) h,
-        in-room false mapRoom _ (mapProtectable (map rows)) (l .1 .1 .1) h,
+        in-room 0 mapRoom _ (mapStarts (map rows)) (e .1) h,
+        in-room 0 mapRoom _ (mapEnds (map rows)) (e .2) h,
+        in-room 0 mapRoom _ (mapNodes (map rows)) (e .3) h,
+        in-room false mapRoom _ (mapProtectable (map rows)) (e .4) h,
       )
 
   imports-room : let l = ranges rows .read-ranges .last .1 in let k = n .at-most2 .result in (k ≤ length (l .0)) × (k ≤ length (l .1 .0))
