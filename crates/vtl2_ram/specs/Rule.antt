@@ -92,7 +92,7 @@ module _ (mode : MemoryAllocationMode) (isolation : IsolationType) (size : Optio
   Rule row7 = InBoot mode ((length (nodesIn map) ≤ maxNodes) × ((n : ℕ) → has n (nodesIn map) ≡ true → n < length (nodesIn map)))
   -- the RAM size is not below the file's
   Rule row8 = InBoot mode (lengthOf file ≤ sizeWanted size file)
-  -- the share, or the end of an isolated guest's range, is a page address of 64 bits
+  -- the share, or the end of an isolated guest's range, is not above the last page address
   Rule row9 =
       ByMode mode (isHardwareIsolated isolation ≡ true → isolatedEnd file (bytesOf (protectableIn map)) ≤ 2 ^ 64 - pageSize)
       (shareIn size file map ≤ 2 ^ 64 - pageSize)
