@@ -10,5 +10,6 @@ pub mod Parts
 pub mod Ram
 pub mod Rows
 pub mod Rule
+pub mod RuleOrder
 pub mod RuleTests
 pub mod Select

@@ -1,6 +1,6 @@
 -- The rows of the refusal chart that concern selection, each as a rule by itself, said of numbers and bytes and not of the
--- walks that look for it (docs/SPEC.md, section 20). An accepted selection keeps every rule, and a refusal tells the number of one
--- that is broken.
+-- walks that look for it (docs/SPEC.md, section 20). An accepted selection keeps every rule, and a refusal tells the number of the
+-- first one that is broken.
 use Prim.Native.Nat.{ℕ, _+_, _-_, _^_, _≤_, _<_}
 use mathlib.Core.Path.{_≡_}
 use mathlib.Core.Bool.{true, false, cond}
@@ -51,6 +51,21 @@ number row11 = importCrossesFile
 number row12 = importNotInMap
 number row13 = nodeTooSmall
 number row14 = tooManyPieces
+
+-- the rows with lower numbers than this are looked at before a row: those above it in the chart; but a piece too many can come up
+-- in every part, so before 14 only rows 4 to 9 are
+abbrev pub lookedAt : Row → ℕ
+lookedAt row4 = rangeInvalid
+lookedAt row5 = rangesNotAscending
+lookedAt row6 = mapCount
+lookedAt row7 = nodeNumbers
+lookedAt row8 = ramSizeBelowFile
+lookedAt row9 = shareTooLarge
+lookedAt row10 = fileNotInMap
+lookedAt row11 = importCrossesFile
+lookedAt row12 = importNotInMap
+lookedAt row13 = nodeTooSmall
+lookedAt row14 = fileNotInMap
 
 -- what is asked of host mode, and what of boot mode
 abbrev pub ByMode : MemoryAllocationMode → Type 0 → Type 0 → Type 0
@@ -110,6 +125,10 @@ module _ (mode : MemoryAllocationMode) (isolation : IsolationType) (size : Optio
       ByMode mode (isHardwareIsolated isolation ≡ false → length (protectableIn map) ≤ maxChosen)
       (PiecesFit isolation file (entriesIn map) imports (shareIn size file map) (nodesIn map))
 
-  -- some rule is broken, and that is its number
+  -- the rules of the rows below k are kept
+  abbrev pub Kept : ℕ → Type 0
+  Kept k = (row : Row) → number row < k → Rule row
+
+  -- a rule is broken, n is its number, and the rules that are looked at before it are kept
   abbrev pub Broken : ℕ → Type 0
-  Broken n = (row : Row) × (number row ≡ n) × (Rule row → ⊥)
+  Broken n = (row : Row) × (number row ≡ n) × (Rule row → ⊥) × Kept (lookedAt row)

@@ -1,6 +1,6 @@
 -- Host mode: an accepted selection keeps every rule, and a refused one tells the number of a rule that is broken.
-use Prim.Native.Nat.{ℕ, _-_, _^_, _≤_}
-use mathlib.Core.Path.{_≡_, refl, sym}
+use Prim.Native.Nat.{ℕ, _-_, _^_, _≤_, _+_}
+use mathlib.Core.Path.{_≡_, refl, sym, _∙_}
 use mathlib.Core.Bool.{Bool, true, false, cond, true≢false}
 use mathlib.Core.List.{List, [], _∷_}
 use native.Mathlib.Omega.{arith}
@@ -18,16 +18,17 @@ use Rattle.host_params.specs.declared.OptionU64.{OptionU64}
 use Rattle.host_map.specs.Map.{mapRanges, protectableIn}
 use Rattle.boot_ram.specs.Held.{bytesOf}
 use Rattle.boot_ram.specs.Verdict.{maxChosen}
-use Rattle.refusal.specs.Number.{shareTooLarge, tooManyPieces}
+use Rattle.refusal.specs.Number.{shareTooLarge, tooManyPieces, nodeNumbers}
 use Rattle.refusal.specs.Rows.{refusedIf}
 use Rattle.refusal.specs.Laws.Rows.{rule-told, not-refused}
 use Rattle.vtl2_ram.specs.Choice.{refused, chosen}
 use Rattle.vtl2_ram.specs.Rows.{rowsRefusal}
-use Rattle.vtl2_ram.specs.Rule.{Row, row4, row5, row6, row7, row8, row9, row10, row11, row12, row13, row14, Rule, Broken}
+use Rattle.vtl2_ram.specs.Rule.{Row, row7, row8, row9, row10, row11, row12, row13, row14, Rule, Broken, Kept, number}
 use Rattle.vtl2_ram.specs.Select.{choice, choiceBy}
 use Rattle.vtl2_ram.specs.Host.{isHardwareIsolated, isolatedEnd, isolatedChoice, protectableChoice, hostChoice}
 use Rattle.vtl2_ram.specs.Laws.Choice.{unless-chosen, unless-told, chosen-not-refused}
 use Rattle.vtl2_ram.specs.Laws.RuleTests.{first-rows}
+use Rattle.vtl2_ram.specs.Laws.RuleOrder.{kept-more}
 
 module _ (isolation : IsolationType) (size : OptionU64) (file : MemoryRange) (map : List MemoryEntry) (imports : List MemoryRange) where
   abbrev HostRule : Row → Type 0
@@ -42,16 +43,31 @@ module _ (isolation : IsolationType) (size : OptionU64) (file : MemoryRange) (ma
   abbrev isolatedTop : ℕ
   isolatedTop = isolatedEnd file (bytesOf protectable)
 
-  pub host-broken : {n : ℕ} → hostChoice isolation file map ≡ refused n → HostBroken n
+  abbrev HostKept : ℕ → Type 0
+  HostKept = Kept Host isolation size file map imports
+
+  abbrev kept-next : (row : Row) → HostKept (number row) → HostRule row → HostKept (number row + 1)
+  kept-next = kept-more Host isolation size file map imports
+
+  -- rows 7 and 8 have no rule here
+  upto8 : HostKept nodeNumbers → HostKept shareTooLarge
+  upto8 passed = kept-next row8 (kept-next row7 passed tt) tt
+
+  pub host-broken : HostKept nodeNumbers → {n : ℕ} → hostChoice isolation file map ≡ refused n → HostBroken n
   unfolding hostChoice
-  host-broken {n} e = by (isHardwareIsolated isolation) refl e
+  host-broken passed {n} e = by (isHardwareIsolated isolation) refl e
     where
       other : isHardwareIsolated isolation ≡ false → (xs : List TaggedRange) → protectable ≡ xs → protectableChoice file xs ≡ refused n → HostBroken n
       other i [] p e = absurd (chosen-not-refused e)
       other i (x ∷ xs) p e =
           unless-told HostBroken (refusedIf (ltb maxChosen (length (x ∷ xs))) tooManyPieces) (chosen (x ∷ xs))
           (rule-told HostBroken (ltb maxChosen (length (x ∷ xs))) tooManyPieces
-          (λ l. (row14, refl, λ h. absurd (omega (arith, ltb-true maxChosen (length (x ∷ xs)) l, rw p at (h i))))))
+          (λ l. (
+            row14,
+            refl,
+            λ h. absurd (omega (arith, ltb-true maxChosen (length (x ∷ xs)) l, rw p at (h i))),
+            kept-next row9 (upto8 passed) (λ t. absurd (true≢false (sym t ∙ i))),
+          )))
           (λ _ f. absurd (chosen-not-refused f)) e
 
       by : (t : Bool) → isHardwareIsolated isolation ≡ t → cond t (isolatedChoice file (bytesOf protectable)) (protectableChoice file protectable) ≡ refused n
@@ -59,7 +75,7 @@ module _ (isolation : IsolationType) (size : OptionU64) (file : MemoryRange) (ma
       by true i e =
           unless-told HostBroken (refusedIf (ltb (2 ^ 64 - pageSize) isolatedTop) shareTooLarge) (chosen (tagged (file .start) isolatedTop 0 ∷ []))
           (rule-told HostBroken (ltb (2 ^ 64 - pageSize) isolatedTop) shareTooLarge
-          (λ l. (row9, refl, λ h. absurd (omega (arith, ltb-true (2 ^ 64 - pageSize) isolatedTop l, h i)))))
+          (λ l. (row9, refl, λ h. absurd (omega (arith, ltb-true (2 ^ 64 - pageSize) isolatedTop l, h i)), upto8 passed)))
           (λ _ f. absurd (chosen-not-refused f)) e
       by false i e = other i protectable refl e
 
@@ -85,15 +101,8 @@ module _ (isolation : IsolationType) (size : OptionU64) (file : MemoryRange) (ma
     unfolding choice
     host-own = host-rows ram (unless-chosen (rowsRefusal Host file (mapRanges map) imports) (choiceBy Host isolation size file map imports) e .1)
 
-    pub host-kept : (row : Row) → HostRule row
-    host-kept row4 = first-rows Host isolation size file map imports ram e .0
-    host-kept row5 = first-rows Host isolation size file map imports ram e .1
-    host-kept row6 = first-rows Host isolation size file map imports ram e .2
-    host-kept row7 = tt
-    host-kept row8 = tt
-    host-kept row9 = host-own .0
-    host-kept row10 = tt
-    host-kept row11 = tt
-    host-kept row12 = tt
-    host-kept row13 = tt
-    host-kept row14 = host-own .1
+    pub host-kept : HostKept (tooManyPieces + 1)
+    host-kept =
+        let upto9 = kept-next row9 (upto8 (first-rows Host isolation size file map imports ram e)) (host-own .0) in
+        let upto13 = kept-next row13 (kept-next row12 (kept-next row11 (kept-next row10 upto9 tt) tt) tt) tt in
+        kept-next row14 upto13 (host-own .1)

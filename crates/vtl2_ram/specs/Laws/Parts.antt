@@ -5,7 +5,6 @@ use mathlib.Core.Path.{_≡_, refl, sym, ap, _∙_}
 use mathlib.Core.Bool.{Bool, true, false, cond, not}
 use mathlib.Core.List.{List, [], _∷_, _++_}
 use mathlib.Core.Option.{Option, none, some, Option·some-ne-none}
-use mathlib.Core.Logic.{inl, inr, ⊎-elim}
 use native.Mathlib.Omega.{arith}
 use lib.Dec.{eqb}
 use borrow.Author.Tests.{ne-eqb, not-false}
@@ -16,23 +15,22 @@ use Rattle.memory_range.specs.Bytes.{holders, Ordered, All}
 use Rattle.memory_range.specs.List.{rangesIn}
 use Rattle.memory_range.specs.Range.{holds}
 use Rattle.range_lists.specs.Sort.{sortByStart}
-use Rattle.memory_range.specs.Laws.Bytes.{ordered-once, all-map}
+use Rattle.memory_range.specs.Laws.Bytes.{ordered-once, all-map, all-append}
 use Rattle.range_lists.specs.Laws.Node.{AscendsFrom}
 use Rattle.range_lists.specs.Laws.Sort.{sort-ordered, sort-all, sort-holders, sort-length}
 use Rattle.memory_range.specs.Laws.Valid.{valid-parts, valid-ordered}
 use Rattle.host_params.specs.declared.IsolationType.{IsolationType}
 use Rattle.boot_ram.specs.File.{fileWalk}
 use Rattle.boot_ram.specs.Held.{holdersOn, PagedRange, Paged}
-use Rattle.boot_ram.specs.Import.{importsClear, MayBeImported, importWalk}
+use Rattle.boot_ram.specs.Import.{importsClear, importWalk}
 use Rattle.boot_nodes.specs.Node.{countUp}
 use Rattle.boot_take.specs.Take.{taking}
 use Rattle.boot_ram.specs.Verdict.{Judged, maxChosen}
 use Rattle.boot_ram.specs.Laws.File.{file-chosen, file-free, file-in-map, file-free-ordered, file-paged}
-use Rattle.boot_ram.specs.Laws.Import.{AtPages, import-free, import-in-map, import-paged}
+use Rattle.boot_ram.specs.Laws.Import.{AtPages, import-free, import-paged}
 use Rattle.boot_take.specs.Laws.Bounds.{file-bounds, taking-bounds}
 use Rattle.boot_ram.specs.Laws.ByNode.{sort-holders-on, by-nodes}
 use Rattle.boot_nodes.specs.Laws.Node.{count-ascends}
-use Rattle.memory_range.specs.Laws.Bytes.{all-append}
 use Rattle.boot_ram.specs.Laws.OnNode.{holders-append}
 use Rattle.boot_ram.specs.Laws.Paged.{all-paged, entries-paged}
 use Rattle.boot_take.specs.Laws.Taking.{taking-held, taking-paged}
@@ -149,23 +147,6 @@ module _ (isolation : IsolationType) (file : MemoryRange) (map : List TaggedRang
       where
         none-taken : (n : ℕ) → holdersOn n (took .chosen) a ≤ 0
         none-taken n = rw (ne-eqb (holders imports a) 0 (λ e. omega arith)) at (taken-within n a)
-
-    -- each imported byte lies in the file, in the map, or, under Tdx, in the page below 4 GiB
-    pub parts-imported : (a : ℕ) → 0 < holders imports a → MayBeImported isolation file (rangesIn map) a
-    parts-imported a p =
-        let free-ordered = file-free-ordered file map (accepted .file-walked) file-full map-ordered in
-        ⊎-elim inl (λ q. inr (⊎-elim (λ h. inl (within h)) inr q))
-        (import-in-map isolation file imports (filed .free) (accepted .imports-walked) imports-ordered free-ordered a p)
-      where
-        free-on : (n : ℕ) → holdersOn n (filed .free) a ≤ holdersOn n map a
-        free-on n = rw (file-free file map (accepted .file-walked) file-full map-ordered n a) (go (holds file a))
-          where
-            go : (t : Bool) → cond t 0 (holdersOn n map a) ≤ holdersOn n map a
-            go true = omega arith
-            go false = omega arith
-
-        within : 0 < holders (rangesIn (filed .free)) a → 0 < holders (rangesIn map) a
-        within h = omega (arith, by-nodes (filed .free) map a free-on)
 
     unsorted-paged : Paged unsorted
     unsorted-paged =

@@ -1,4 +1,4 @@
--- The rows of the chart as rules: an accepted selection keeps every one, and a refused one tells the number of a rule that is
+-- The rows of the chart as rules: an accepted selection keeps every one, and a refused one tells the number of the first that is
 -- broken. So a selection that keeps all of them is accepted.
 use Prim.Native.Nat.{ℕ}
 use mathlib.Core.Path.{_≡_, refl}
@@ -20,17 +20,16 @@ use Rattle.vtl2_ram.specs.Laws.Choice.{unless-told}
 use Rattle.vtl2_ram.specs.Laws.RuleTests.{rows-break, rows-keep}
 use Rattle.vtl2_ram.specs.Laws.BootRule.{boot-broken, boot-kept}
 use Rattle.vtl2_ram.specs.Laws.HostRule.{host-broken, host-kept}
+use Rattle.vtl2_ram.specs.Laws.RuleOrder.{kept-all}
 
 module _ (mode : MemoryAllocationMode) (isolation : IsolationType) (size : OptionU64) (file : MemoryRange) (map : List MemoryEntry)
     (imports : List MemoryRange) where
   own-broken : (mode : MemoryAllocationMode) → rowsRefusal mode file (mapRanges map) imports ≡ none → {n : ℕ}
       → choiceBy mode isolation size file map imports ≡ refused n → Broken mode isolation size file map imports n
-  own-broken Host e f = host-broken isolation size file map imports f
-  own-broken Vtl2 e f =
-      let rows = rows-keep Vtl2 isolation size file map imports e in
-      boot-broken isolation size file map imports (rows .0) (rows .1) f
+  own-broken Host e f = host-broken isolation size file map imports (rows-keep Host isolation size file map imports e) f
+  own-broken Vtl2 e f = boot-broken isolation size file map imports (rows-keep Vtl2 isolation size file map imports e) f
 
-  -- a refusal tells the number of a rule that is broken
+  -- a refusal tells the number of the first rule that is broken
   pub refused-broken : {n : ℕ} → choice mode isolation size file map imports ≡ refused n → Broken mode isolation size file map imports n
   unfolding choice
   refused-broken =
@@ -44,8 +43,8 @@ module _ (mode : MemoryAllocationMode) (isolation : IsolationType) (size : Optio
     where
       by : (mode : MemoryAllocationMode) → choice mode isolation size file map imports ≡ chosen ram
           → (row : Row) → Rule mode isolation size file map imports row
-      by Host f = host-kept isolation size file map imports ram f
-      by Vtl2 f = boot-kept isolation size file map imports ram f
+      by Host f = kept-all Host isolation size file map imports (host-kept isolation size file map imports ram f)
+      by Vtl2 f = kept-all Vtl2 isolation size file map imports (boot-kept isolation size file map imports ram f)
 
   -- so one that keeps every rule is accepted
   pub kept-chosen : ((row : Row) → Rule mode isolation size file map imports row)

@@ -1,12 +1,12 @@
 -- Rows 4 to 8 and 11 of the chart are tests of a selection's lists: each says what the rule of its row says.
-use Prim.Native.Nat.{ℕ, _≤_, _<_}
+use Prim.Native.Nat.{ℕ, _+_, _≤_, _<_}
 use mathlib.Core.Path.{_≡_, refl, sym, _∙_}
 use mathlib.Core.Bool.{Bool, true, false, _&&_, _||_, not, true≢false, and-eq-true-iff, or-true}
 use mathlib.Core.List.{List, [], _∷_}
 use mathlib.Core.Logic.{inl, inr, ⊎-elim}
 use mathlib.Core.Option.{none, some, Option·none-ne-some}
 use native.Mathlib.Omega.{arith}
-use borrow.Author.Tests.{eqb-true, eq-eqb, ltb-true, ltb-false, leb-true, le-leb, lt-ltb, le-ltb, ne-eqb, eqb-false, not-true}
+use borrow.Author.Tests.{eqb-true, eq-eqb, ltb-true, ltb-false, leb-true, le-leb, lt-ltb, le-ltb, ne-eqb, eqb-false, not-true, not-false}
 use lib.Dec.{leb, ltb, eqb}
 use lib.ListN.{length}
 use Rattle.memory_range.specs.declared.range.MemoryRange.{MemoryRange}
@@ -26,17 +26,18 @@ use Rattle.host_map.specs.Map.{maxEntries, mapRanges}
 use Rattle.boot_nodes.specs.Node.{maxNodes, nodesBad, allBelow}
 use Rattle.boot_ram.specs.Import.{importsClear}
 use Rattle.boot_ram.specs.Laws.Paged.{all-paged, paged-all}
-use Rattle.refusal.specs.Number.{rangeInvalid, rangesNotAscending, mapCount}
+use Rattle.refusal.specs.Number.{rangeInvalid, rangesNotAscending, mapCount, nodeNumbers}
 use Rattle.refusal.specs.Rows.{refusedIf}
 use Rattle.refusal.specs.Laws.Rows.{told-in-turn}
 use Rattle.vtl2_ram.specs.Choice.{chosen}
 use Rattle.vtl2_ram.specs.Rows.{isBoot, maxImports, countsGood, rowsRefusal, rowsKnown}
-use Rattle.vtl2_ram.specs.Rule.{Row, row4, row5, row6, InBoot, InsideOrOutside, Rule, Broken}
+use Rattle.vtl2_ram.specs.Rule.{Row, row4, row5, row6, number, InBoot, InsideOrOutside, Rule, Kept, Broken}
 use Rattle.vtl2_ram.specs.Select.{choice, choiceBy}
 use Rattle.vtl2_ram.specs.Boot.{sizeWanted, sizeBelow}
 use Rattle.host_params.specs.declared.OptionU64.the-variants.{Some, None}
 use Rattle.vtl2_ram.specs.Laws.Choice.{unless-chosen}
 use Rattle.vtl2_ram.specs.Laws.Map.{length-map-ranges}
+use Rattle.vtl2_ram.specs.Laws.RuleOrder.{kept-none, kept-more}
 use Rattle.vtl2_ram.specs.Laws.Rows.{rows-passed}
 
 -- a test that says false of what is true
@@ -122,32 +123,64 @@ module _ (mode : MemoryAllocationMode) (isolation : IsolationType) (size : Optio
   abbrev Breaks : ℕ → Type 0
   Breaks = Broken mode isolation size file map imports
 
+  abbrev Keeps : ℕ → Type 0
+  Keeps = Kept mode isolation size file map imports
+
+  abbrev kept-next : (row : Row) → Keeps (number row) → Rules row → Keeps (number row + 1)
+  kept-next = kept-more mode isolation size file map imports
+
+  abbrev nothing-yet : Keeps rangeInvalid
+  nothing-yet = kept-none mode isolation size file map imports
+
   -- rows 4 to 6
-  pub rows-break : {n : ℕ} → rowsRefusal mode file (mapRanges map) imports ≡ some n → Breaks n
+  abbrev m : List MemoryRange
+  m = mapRanges map
+
+  ranges-rule : (validRange file && (allValid m && allValid imports)) ≡ true → Rules row4
+  ranges-rule v =
+      let t = and-eq-true-iff (validRange file) (allValid m && allValid imports) .0 v in
+      let u = and-eq-true-iff (allValid m) (allValid imports) .0 (t .1) in
+      (valid-parts file (t .0), all-paged m (u .0), all-paged imports (u .1))
+
+  order-rule : Rules row4 → (ascend m && ascend imports) ≡ true → Rules row5
+  order-rule h o =
+      let t = and-eq-true-iff (ascend m) (ascend imports) .0 o in
+      (valid-ordered 0 m (paged-all m (h .1)) (t .0), valid-ordered 0 imports (paged-all imports (h .2)) (t .1))
+
+  counts-rule : countsGood mode (length m) (length imports) ≡ true → Rules row6
+  counts-rule g = rw (length-map-ranges map) at (counts-kept mode (length m) (length imports) g)
+
+  pub rows-break : {n : ℕ} → rowsRefusal mode file m imports ≡ some n → Breaks n
   unfolding rowsKnown
   rows-break =
-      let m = mapRanges map in
       let valid = validRange file && (allValid m && allValid imports) in
       let ascending = ascend m && ascend imports in
       let counts = countsGood mode (length m) (length imports) in
-      told-in-turn Breaks (not valid) rangeInvalid (refusedIf (not ascending) rangesNotAscending ∷ refusedIf (not counts) mapCount ∷ [])
-      (λ e. (row4, refl, λ h. contrary valid (rw (valid-range file (h .0 .0) (h .0 .1) (h .0 .2), paged-all m (h .1), paged-all imports (h .2))) e))
-      (λ v. told-in-turn Breaks (not ascending) rangesNotAscending (refusedIf (not counts) mapCount ∷ [])
-      (λ e. (row5, refl, λ h. contrary ascending (rw (ordered-ascend 0 m (h .0), ordered-ascend 0 imports (h .1))) e))
-      (λ o. told-in-turn Breaks (not counts) mapCount []
-      (λ e. (row6, refl, λ h. contrary counts (rw (length-map-ranges map) (kept-counts mode (length map) (length imports) h)) e))
+      let order = refusedIf (not ascending) rangesNotAscending in
+      let count = refusedIf (not counts) mapCount in
+      told-in-turn Breaks (not valid) rangeInvalid (order ∷ count ∷ [])
+      (λ e. (
+        row4,
+        refl,
+        λ h. contrary valid (rw (valid-range file (h .0 .0) (h .0 .1) (h .0 .2), paged-all m (h .1), paged-all imports (h .2))) e,
+        nothing-yet,
+      ))
+      (λ v. let four = ranges-rule (not-false valid v) in let upto4 = kept-next row4 nothing-yet four in
+      told-in-turn Breaks (not ascending) rangesNotAscending (count ∷ [])
+      (λ e. (row5, refl, λ h. contrary ascending (rw (ordered-ascend 0 m (h .0), ordered-ascend 0 imports (h .1))) e, upto4))
+      (λ o. let upto5 = kept-next row5 upto4 (order-rule four (not-false ascending o)) in
+      told-in-turn Breaks (not counts) mapCount []
+      (λ e. (row6, refl, λ h. contrary counts (rw (length-map-ranges map) (kept-counts mode (length map) (length imports) h)) e, upto5))
       (λ g e. absurd (Option·none-ne-some _ e))))
 
-  pub rows-keep : rowsRefusal mode file (mapRanges map) imports ≡ none → Rules row4 × Rules row5 × Rules row6
+  pub rows-keep : rowsRefusal mode file m imports ≡ none → Keeps nodeNumbers
   rows-keep e =
-      let m = mapRanges map in
-      let p = rows-passed mode file m imports e in (
-        (valid-parts file (p .0), all-paged m (p .1), all-paged imports (p .2)),
-        (valid-ordered 0 m (p .1) (p .3), valid-ordered 0 imports (p .2) (p .4)),
-        rw (length-map-ranges map) at (counts-kept mode (length m) (length imports) (p .5)),
-      )
+      let p = rows-passed mode file m imports e in
+      let four : Rules row4 = (valid-parts file (p .0), all-paged m (p .1), all-paged imports (p .2)) in
+      let five : Rules row5 = (valid-ordered 0 m (p .1) (p .3), valid-ordered 0 imports (p .2) (p .4)) in
+      kept-next row6 (kept-next row5 (kept-next row4 nothing-yet four) five) (counts-rule (p .5))
 
-  pub first-rows : (ram : List TaggedRange) → choice mode isolation size file map imports ≡ chosen ram → Rules row4 × Rules row5 × Rules row6
+  pub first-rows : (ram : List TaggedRange) → choice mode isolation size file map imports ≡ chosen ram → Keeps nodeNumbers
   unfolding choice
   first-rows ram e =
-      rows-keep (unless-chosen (rowsRefusal mode file (mapRanges map) imports) (choiceBy mode isolation size file map imports) e .0)
+      rows-keep (unless-chosen (rowsRefusal mode file m imports) (choiceBy mode isolation size file map imports) e .0)
