@@ -1,6 +1,6 @@
 -- The walk of the file's range with the map (docs/SPEC.md, section 19).
 use Prim.Native.Nat.{ℕ}
-use mathlib.Core.List.{List, [], _∷_}
+use mathlib.Core.List.{List, [], _∷_, map}
 use mathlib.Core.Option.{Option, none, some}
 use lib.ListN.{length, getD}
 use Rattle.memory_range.specs.declared.range.MemoryRange.{MemoryRange}
@@ -27,8 +27,7 @@ fileVerdict m r (Right j) = free (onNodeOf m j r)
 fileVerdict m r (Both i j) = choose (onNodeOf m j r)
 
 abbrev pub fileVerdicts : List TaggedRange → List WalkPiece → List Verdict
-fileVerdicts m [] = []
-fileVerdicts m (p ∷ ps) = fileVerdict m (p .range) (p .result) ∷ fileVerdicts m ps
+fileVerdicts m ps = map (λ p. fileVerdict m (p .range) (p .result)) ps
 
 -- part 1: the file walk
 unfoldable pub fileWalk : MemoryRange → List TaggedRange → Judged

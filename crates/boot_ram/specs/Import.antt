@@ -3,7 +3,7 @@ use Prim.Native.Nat.{ℕ, _-_, _^_, _≤_, _<_}
 use mathlib.Core.Path.{_≡_}
 use mathlib.Core.Logic.{_⊎_}
 use mathlib.Core.Bool.{Bool, true, false, cond, _&&_, _||_, not}
-use mathlib.Core.List.{List, [], _∷_}
+use mathlib.Core.List.{List, [], _∷_, map}
 use lib.Dec.{eqb}
 use lib.ListN.{getD}
 use Rattle.memory_range.specs.List.{rangesIn}
@@ -55,8 +55,7 @@ importVerdict i file imports m r (Right j) = free (onNodeOf m j r)
 importVerdict i file imports m r (Both k j) = pass
 
 abbrev pub importVerdicts : IsolationType → MemoryRange → List MemoryRange → List TaggedRange → List WalkPiece → List Verdict
-importVerdicts i file imports m [] = []
-importVerdicts i file imports m (p ∷ ps) = importVerdict i file imports m (p .range) (p .result) ∷ importVerdicts i file imports m ps
+importVerdicts i file imports m ps = map (λ p. importVerdict i file imports m (p .range) (p .result)) ps
 
 -- part 3: the import walk, over the free pieces of the file walk
 unfoldable pub importWalk : IsolationType → MemoryRange → List MemoryRange → List TaggedRange → Judged

@@ -55,17 +55,7 @@ number row14 = tooManyPieces
 -- the rows with lower numbers than this are looked at before a row: those above it in the chart; but a piece too many can come up
 -- in every part, so before 14 only rows 4 to 9 are
 abbrev pub lookedAt : Row → ℕ
-lookedAt row4 = rangeInvalid
-lookedAt row5 = rangesNotAscending
-lookedAt row6 = mapCount
-lookedAt row7 = nodeNumbers
-lookedAt row8 = ramSizeBelowFile
-lookedAt row9 = shareTooLarge
-lookedAt row10 = fileNotInMap
-lookedAt row11 = importCrossesFile
-lookedAt row12 = importNotInMap
-lookedAt row13 = nodeTooSmall
-lookedAt row14 = fileNotInMap
+lookedAt row = cond (eqb (number row) tooManyPieces) fileNotInMap (number row)
 
 -- what is asked of host mode, and what of boot mode
 abbrev pub ByMode : MemoryAllocationMode → Type 0 → Type 0 → Type 0

@@ -24,10 +24,9 @@ use Rattle.range_lists.specs.Laws.Pieces.{resultAt}
 use Rattle.range_lists.specs.Laws.Walk.{leftItem, rightItem, Says, walk-at}
 use Rattle.boot_ram.specs.File.{onNodeOf, fileVerdict, fileVerdicts, fileWalk}
 use Rattle.boot_ram.specs.Held.{AtPage, holdersOn, freeIn, chosenIn, Fits, Paged}
-use Rattle.boot_ram.specs.Laws.Judged.{NotRefused, RefusesAs, judged-accepted, accepted-none-refused, accepted-fits, judged-told}
+use Rattle.boot_ram.specs.Laws.Judged.{verdicts-all, NotRefused, RefusesAs, judged-accepted, accepted-none-refused, accepted-fits, judged-told}
 use Rattle.boot_ram.specs.Laws.Walks.{rangesFor, isNode, ranges-on}
 use Rattle.boot_ram.specs.Laws.Walks.{bothItem, rightOnly, keptWith, kept, both-bytes, right-bytes, kept-ordered, kept-paged, walk-each}
-use Rattle.boot_ram.specs.Verdict.{Verdict}
 use Rattle.refusal.specs.Number.{fileNotInMap, tooManyPieces}
 
 free-kept : (m : List TaggedRange) (ps : List WalkPiece) → freeIn (fileVerdicts m ps) ≡ kept m rightOnly ps
@@ -72,11 +71,6 @@ one-holds r a x y = go (holds r a) refl
     go false e = rw e
 
 -- a walk is refused as not in the map only at a piece in the file alone
-verdicts-all : (P : Verdict → Type 0) (m : List TaggedRange) (ps : List WalkPiece) → All (λ p. P (fileVerdict m (p .range) (p .result))) ps
-    → All P (fileVerdicts m ps)
-verdicts-all P m [] h = tt
-verdicts-all P m (p ∷ ps) h = (h .0, verdicts-all P m ps (h .1))
-
 refuses-as : (m : List TaggedRange) (r : MemoryRange) (h : RangeWalkResult) → RefusesAs fileNotInMap (fileVerdict m r h)
 refuses-as m r (Left i) = refl
 refuses-as m r (Right j) = tt
@@ -120,9 +114,9 @@ module _ (file : MemoryRange) (m : List TaggedRange) (full : file .start < file 
       let each = walk-each (file ∷ []) (rangesIn m) (omega arith, (full, tt)) om in
       let numbers = all-map (λ p s. refuses-as m (p .range) (p .result)) ps each in
       ⊎-elim
-      (λ t. inl (t .0, λ inside. t .1 (verdicts-all NotRefused m ps (all-map (piece-kept inside) ps each))))
+      (λ t. inl (t .0, λ inside. t .1 (verdicts-all NotRefused _ ps (all-map (piece-kept inside) ps each))))
       inr
-      (judged-told fileNotInMap 0 0 (fileVerdicts m ps) (verdicts-all (RefusesAs fileNotInMap) m ps numbers) e)
+      (judged-told fileNotInMap 0 0 (fileVerdicts m ps) (verdicts-all (RefusesAs fileNotInMap) _ ps numbers) e)
 
 module _ (file : MemoryRange) (m : List TaggedRange) (accepted : fileWalk file m .refusal ≡ none) (full : file .start < file .end)
     (om : Ordered 0 (rangesIn m)) where

@@ -31,7 +31,7 @@ use Rattle.boot_ram.specs.Held.{AtPage, PagedRange, holdersOn, freeIn, F
 use Rattle.boot_ram.specs.Import.{importsClear, isTdx, isExcused, MayBeImported, isSkipped, importVerdict, importVerdicts, importWalk}
 use Rattle.boot_ram.specs.Verdict.{Verdict, pass, refuse}
 use Rattle.refusal.specs.Number.{importNotInMap, tooManyPieces}
-use Rattle.boot_ram.specs.Laws.Judged.{NotRefused, RefusesAs, judged-accepted, accepted-none-refused, accepted-fits, judged-told}
+use Rattle.boot_ram.specs.Laws.Judged.{verdicts-all, NotRefused, RefusesAs, judged-accepted, accepted-none-refused, accepted-fits, judged-told}
 use Rattle.boot_ram.specs.Laws.Walks.{rangesFor, isNode, ranges-on}
 use Rattle.boot_ram.specs.Laws.Walks.{rightOnly, keptWith, kept, right-bytes, kept-ordered, kept-paged, paged-boundaries, walk-each}
 
@@ -145,11 +145,6 @@ module _ (i : IsolationType) (file : MemoryRange) (imports : List MemoryRange) (
 
 -- a walk is refused as not in the map only at a piece in an imported range alone
 module _ (i : IsolationType) (file : MemoryRange) (imports : List MemoryRange) (m : List TaggedRange) where
-  verdicts-all : (P : Verdict → Type 0) (ps : List WalkPiece) → All (λ p. P (importVerdict i file imports m (p .range) (p .result))) ps
-      → All P (importVerdicts i file imports m ps)
-  verdicts-all P [] h = tt
-  verdicts-all P (p ∷ ps) h = (h .0, verdicts-all P ps (h .1))
-
   refuses-as : (r : MemoryRange) (h : RangeWalkResult) → RefusesAs importNotInMap (importVerdict i file imports m r h)
   refuses-as r (Left k) = go (isSkipped i file (getD imports k (range 0 0)) r)
     where
@@ -173,11 +168,11 @@ module _ (i : IsolationType) (file : MemoryRange) (imports : List MemoryRange) (
       ⊎-elim
       (λ t. inl (
         t .0,
-        λ allowed. t .1 (verdicts-all NotRefused ps
+        λ allowed. t .1 (verdicts-all NotRefused _ ps
             (all-map (λ p s. piece-kept i file imports m oi om clear allowed p (s .0 .0, s .1 .0, s .1 .1) (s .0 .1)) ps (all-both _ _ ps each pages))),
       ))
       inr
-      (judged-told importNotInMap 0 0 (importVerdicts i file imports m ps) (verdicts-all (RefusesAs importNotInMap) ps numbers) e)
+      (judged-told importNotInMap 0 0 (importVerdicts i file imports m ps) (verdicts-all (RefusesAs importNotInMap) _ ps numbers) e)
 
 module _ (i : IsolationType) (file : MemoryRange) (imports : List MemoryRange) (m : List TaggedRange)
     (accepted : importWalk i file imports m .refusal ≡ none) (oi : Ordered 0 imports) (om : Ordered 0 (rangesIn m)) where

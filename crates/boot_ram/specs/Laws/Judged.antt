@@ -4,7 +4,7 @@
 use Prim.Native.Nat.{ℕ, _+_, _≤_, _<_}
 use mathlib.Core.Path.{_≡_, refl, ap}
 use mathlib.Core.Bool.{Bool, true, false, cond}
-use mathlib.Core.List.{List, [], _∷_, _++_}
+use mathlib.Core.List.{List, [], _∷_, _++_, map}
 use mathlib.Core.Option.{none, some, Option·some-ne-none, Option·none-ne-some}
 use mathlib.Core.Logic.{_⊎_, inl, inr, ⊎-elim}
 use native.Mathlib.Omega.{arith}
@@ -16,6 +16,11 @@ use Rattle.memory_range.specs.Bytes.{All}
 use Rattle.boot_ram.specs.Verdict.{Verdict, free, choose, refuse, pass, maxFree, maxChosen, Judged, ends, withFree, withChosen, judged}
 use Rattle.boot_ram.specs.Held.{freeIn, chosenIn, Fits}
 use Rattle.refusal.specs.Number.{tooManyPieces}
+
+-- what holds of the verdict on each piece holds of all verdicts
+pub verdicts-all : {A : Type 0} (P : Verdict → Type 0) (f : A → Verdict) (ps : List A) → All (λ p. P (f p)) ps → All P (map f ps)
+verdicts-all P f [] h = tt
+verdicts-all P f (p ∷ ps) h = (h .0, verdicts-all P f ps (h .1))
 
 abbrev pub NotRefused : Verdict → Type 0
 NotRefused (free x) = Unit {0}

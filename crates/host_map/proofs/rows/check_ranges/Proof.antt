@@ -1,6 +1,6 @@
 -- The loop's invariant: the check of the whole list is that of the ranges from index `i` on, after those before it.
 use Prim.Native.Nat.{_+_, _≤_, _-_, min}
-use mathlib.Core.Path.{_≡_, ap, sym, _∙_}
+use mathlib.Core.Path.{_≡_, ap, _∙_}
 use native.Mathlib.Omega.{arith}
 use borrow.Author.Needs.{needs}
 use lib.ListN.{length, drop}
