@@ -6,7 +6,7 @@ use mathlib.Core.Option.{Option, none, some}
 use lib.Dec.{ltb, eqb}
 use lib.ListN.{length}
 use Rattle.refusal.specs.Number.{lengthZero, lengthTooLarge, alignmentInvalid, noFit, tableFull}
-use Rattle.refusal.specs.Rows.{refusedIf, downward}
+use Rattle.refusal.specs.Rows.{refusedIf, downward, unless}
 use Rattle.memory_range.specs.Power.{isPowerOfTwo}
 use Rattle.memory_range.specs.Round.{roundUp}
 use Rattle.memory_range.specs.Valid.{pageSize}
@@ -66,15 +66,10 @@ placedFrom len type policy alignment (found before e after) = placed len type po
 unfoldable pub allocated : OptionU32 → ℕ → AllocationType → AllocationPolicy → OptionU64 → List AddressRange → Outcome
 allocated asked len type policy alignment es = placedFrom len type policy alignment (searched policy (fitsIn asked len alignment) es)
 
--- a refusal, if there is one, and else what comes after
-abbrev pub unless : Option ℕ → Outcome → Outcome
-unless (some n) o = refused n
-unless none o = o
-
 -- a request: the rows above the search, and then the search for the length rounded up to pages
 unfoldable pub requested : OptionU32 → ℕ → AllocationType → AllocationPolicy → OptionU64 → List AddressRange → Outcome
 requested asked len type policy alignment es =
-    unless (rowsRefusal len alignment) (allocated asked (roundUp pageSize len) type policy alignment es)
+    unless refused (rowsRefusal len alignment) (allocated asked (roundUp pageSize len) type policy alignment es)
 
 -- row 25 of a search: it ends at nothing
 abbrev pub missed : Search AddressRange → Option ℕ

@@ -4,6 +4,7 @@ use mathlib.Core.Bool.{Bool, cond, _||_}
 use mathlib.Core.List.{List, [], _∷_}
 use mathlib.Core.Option.{Option, none, some}
 use lib.Dec.{eqb}
+use Rattle.refusal.specs.Rows.{unless}
 use Rattle.refusal.specs.Number.{noFit, poolNodeNoFit}
 use Rattle.memory_range.specs.declared.range.TaggedRange.{TaggedRange}
 use Rattle.vtl2_ram.specs.Choice.{Choice}
@@ -13,7 +14,7 @@ use Rattle.address_space.specs.declared.request.AllocatedRange.{AllocatedRange}
 use Rattle.address_space.specs.declared.table.AddressRange.{AddressRange}
 use Rattle.address_space.specs.declared.usage.AddressUsage.the-variants.{Reserved}
 use Rattle.address_space.specs.declared.usage.ReservedMemoryType.the-variants.{Vtl2Config}
-use Rattle.address_space.specs.Request.{Outcome, rowsRefusal, unless}
+use Rattle.address_space.specs.Request.{Outcome, rowsRefusal}
 use Rattle.address_space.specs.Request as outcome
 use Rattle.address_space.specs.Table.{entry}
 use Rattle.memory.specs.Build.{Build, build, hasPool}
@@ -84,7 +85,7 @@ plannerOf ways =
 -- it does not look: every request that passes the rows above the search is refused as no-fit
 abbrev pub unlooked : Ways
 unlooked (request r) s =
-    record { answer = resultAnswer (requestPlaced (unless (rowsRefusal (r .len) (r .alignment)) (outcome.refused noFit))); state = s .entries }
+    record { answer = resultAnswer (requestPlaced (unless outcome.refused (rowsRefusal (r .len) (r .alignment)) (outcome.refused noFit))); state = s .entries }
 unlooked (pool pages split) s = right (pool pages split) s
 
 -- it leaves free what it hands out: the answer is right, and the table as found

@@ -2,10 +2,9 @@
 use Prim.Native.Nat.{ℕ}
 use mathlib.Core.Bool.{Bool, true, false, _||_}
 use mathlib.Core.List.{List, [], _∷_, _++_}
-use mathlib.Core.Option.{Option, none, some}
 use lib.ListN.{getD}
 use Rattle.refusal.specs.Number.{usedOutsideRam}
-use Rattle.refusal.specs.Rows.{refusedIf}
+use Rattle.refusal.specs.Rows.{refusedIf, unless}
 use Rattle.memory_range.specs.declared.range.MemoryRange.{MemoryRange}
 use Rattle.memory_range.specs.declared.range.TaggedRange.{TaggedRange}
 use Rattle.range_lists.specs.declared.walk.RangeWalkResult.{RangeWalkResult}
@@ -43,20 +42,15 @@ tableEntries ram used (p ∷ ps) = tableEntry ram used (p .range) (p .result) ++
 unfoldable pub tableOf : List TaggedRange → List TaggedRange → List AddressRange
 tableOf ram used = tableEntries ram used (walk (rangesIn ram) (rangesIn used))
 
--- a refusal, if there is one, and else what comes after
-abbrev pub unless : Option ℕ → Build → Build
-unless (some n) o = refused n
-unless none o = o
-
 -- row 21, and the table
 unfoldable pub filled : List TaggedRange → List TaggedRange → Build
-filled ram used = unless (refusedIf (anyOutside (rangesIn ram) (rangesIn used)) usedOutsideRam) (built (tableOf ram used))
+filled ram used = unless refused (refusedIf (anyOutside (rangesIn ram) (rangesIn used)) usedOutsideRam) (built (tableOf ram used))
 
 -- all rows downward, for a table with so many entries
 unfoldable pub build : AddressSpaceManagerBuilder → ℕ → List TaggedRange → List MemoryRange → List MemoryRange → Build
 build b entries ram configs pools =
-    unless (rowsRefusal b entries (rangesIn ram) configs pools)
-    (unless (usedRefusal b configs pools) (filled ram (usedOf b configs pools)))
+    unless refused (rowsRefusal b entries (rangesIn ram) configs pools)
+    (unless refused (usedRefusal b configs pools) (filled ram (usedOf b configs pools)))
 
 -- whether there are pool ranges: they set the flag
 abbrev pub hasPool : List MemoryRange → Bool

@@ -2,9 +2,10 @@
 ghost use mathlib.Core.Path.{_≡_};
 ghost use mathlib.Core.Option.{none};
 ghost use lib.ListN.{length};
+ghost use Rattle.refusal.specs.Rows.{unless};
 ghost use Rattle.memory_range.specs.List.{rangesOf, rangesIn, taggedOf};
 ghost use Rattle.address_space.specs.Table.{entriesOf};
-ghost use Rattle.memory.specs.Build.{build, filled, hasPool, initAs, unless};
+ghost use Rattle.memory.specs.Build.{build, filled, hasPool, initAs, refused as buildRefused};
 ghost use Rattle.memory.specs.Rows.{rowsRefusal};
 ghost use Rattle.memory.specs.Used.{usedOf, usedRefusal};
 use crate::builder::AddressSpaceManagerBuilder;
@@ -51,7 +52,7 @@ fn build_table<'a>(
         ≡ none ⌝ }
     ensures { λ r. ⌜
         r ≡ initAs manager (hasPool (rangesOf (now («pool_starts» .entry)) (now («pool_ends» .entry))))
-        (unless (usedRefusal builder (rangesOf (now («config_starts» .entry)) (now («config_ends» .entry)))
+        (unless buildRefused (usedRefusal builder (rangesOf (now («config_starts» .entry)) (now («config_ends» .entry)))
         (rangesOf (now («pool_starts» .entry)) (now («pool_ends» .entry))))
         (filled (taggedOf (now («ram_starts» .entry)) (now («ram_ends» .entry)) (now («ram_nodes» .entry)))
         (usedOf builder (rangesOf (now («config_starts» .entry)) (now («config_ends» .entry)))

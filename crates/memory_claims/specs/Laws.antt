@@ -1,4 +1,5 @@
--- The claims, proved of the definitions (Request, Build) and of the table's value (Kept), and the laws on the way to them.
+-- The claims, proved of the definitions (Request, Build) and of the table's value (Kept), the rows as rules (BuildRule, RequestRule), and the
+-- laws on the way to them.
 pub mod Notes
 pub mod Split
 pub mod Part
@@ -13,3 +14,5 @@ pub mod Used
 pub mod Build
 pub mod Example
 pub mod Kept
+pub mod BuildRule
+pub mod RequestRule

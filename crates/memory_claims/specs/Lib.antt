@@ -1,2 +1,4 @@
 pub mod Claim
+pub mod BuildRule
+pub mod RequestRule
 pub mod Laws

@@ -7,7 +7,7 @@ use mathlib.Core.Option.{Option, none, some}
 use lib.Dec.{ltb}
 use lib.ListN.{length, take}
 use Rattle.refusal.specs.Number.{rangeInvalid, rangesNotAscending}
-use Rattle.refusal.specs.Rows.{refusedIf, downward}
+use Rattle.refusal.specs.Rows.{refusedIf, downward, unless}
 use Rattle.memory_range.specs.declared.range.MemoryRange.{MemoryRange}
 use Rattle.memory_range.specs.declared.range.TaggedRange.{TaggedRange}
 use Rattle.memory_range.specs.Valid.{allValid, ascend}
@@ -79,11 +79,6 @@ abbrev pub afterChoice : IsolationType → Pool → AddressSpaceManagerBuilder �
 afterChoice isolation pool builder gets configs pools (choice-of.refused n) = refused n
 afterChoice isolation pool builder gets configs pools (chosen ram) = afterBuild isolation pool ram gets (build builder 0 ram configs pools)
 
--- a refusal, if there is one, and else what comes after
-abbrev pub unless : Option ℕ → Plan → Plan
-unless (some n) p = refused n
-unless none p = p
-
 -- row 4 over all ranges of the text, then row 5 over the map and the imported ranges
 unfoldable pub rangesRefusal : List Record → Option ℕ
 rangesRefusal rs =
@@ -101,7 +96,7 @@ selectedPlan i =
     (choice (s .mode) (s .isolation) (s .«memory_size») (i .file) (i .map) (i .imports))
 
 unfoldable pub recordsPlan : List Record → Plan
-recordsPlan rs = unless (rangesRefusal rs) (selectedPlan (inputOf rs))
+recordsPlan rs = unless refused (rangesRefusal rs) (selectedPlan (inputOf rs))
 
 -- the records of a text that is accepted
 abbrev pub recordsGiven : Option (List Record) → List Record

@@ -1,3 +1,4 @@
--- Laws of the rows, and of answers that may be a refusal.
+-- Laws of the rows, of answers that may be a refusal, and of rows as rules.
 pub mod Answer
 pub mod Rows
+pub mod Rule

@@ -14,3 +14,8 @@ abbrev pub downward : List (Option ℕ) → Option ℕ
 downward [] = none
 downward (some n ∷ rows) = some n
 downward (none ∷ rows) = downward rows
+
+-- a refusal, if there is one, and else what comes after
+abbrev pub unless : {A : Type 0} → (ℕ → A) → Option ℕ → A → A
+unless refused (some n) x = refused n
+unless refused none x = x

@@ -7,7 +7,7 @@ use mathlib.Core.Option.{Option, none}
 use lib.Dec.{eqb, leb, ltb}
 use lib.ListN.{length, drop}
 use Rattle.refusal.specs.Number.{rangeInvalid, rangesNotAscending}
-use Rattle.refusal.specs.Rows.{refusedIf, downward}
+use Rattle.refusal.specs.Rows.{refusedIf, downward, unless}
 use Rattle.memory_range.specs.declared.range.MemoryRange.{MemoryRange}
 use Rattle.memory_range.specs.declared.range.TaggedRange.{TaggedRange}
 use Rattle.memory_range.specs.Range.{range}
@@ -26,7 +26,7 @@ use Rattle.boot_ram.specs.Verdict.{maxChosen}
 use Rattle.vtl2_ram.specs.declared.ram.Selection.{Selection}
 use Rattle.vtl2_ram.specs.declared.ram.Selection.the-variants.{Chosen, Refused}
 use Rattle.vtl2_ram.specs.declared.ram.Vtl2Ram.{Vtl2Ram}
-use Rattle.vtl2_ram.specs.Choice.{Choice, refused, chosen, unless}
+use Rattle.vtl2_ram.specs.Choice.{Choice, refused, chosen}
 use Rattle.vtl2_ram.specs.Select.{choice}
 use Rattle.plan_input.specs.Room.{mapRoom, importRoom}
 use Rattle.table_words.specs.Code.{doneCode, noRoom, badNumber}
@@ -86,7 +86,7 @@ ramSize = maxChosen * 3
 -- selection comes to
 unfoldable pub asked : ℕ → ℕ → OptionU64 → MemoryRange → List ℕ → List ℕ → List ℕ → Choice
 asked mode isolation size file map imports ram =
-    unless
+    unless refused
     (downward
     (refusedIf (ltb (length ram) ramSize) noRoom ∷ refusedIf (not (numbersStand mode isolation map imports)) badNumber ∷ []))
     (choice (modeOf mode) (isolationOf isolation) size file (wordEntries map) (rangesIn imports))

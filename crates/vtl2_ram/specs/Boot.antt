@@ -22,10 +22,10 @@ use Rattle.boot_nodes.specs.Share.{shareOf}
 use Rattle.boot_take.specs.Take.{taking}
 use Rattle.boot_ram.specs.Verdict.{Judged, ends}
 use Rattle.refusal.specs.Number.{nodeNumbers, ramSizeBelowFile, shareTooLarge, importCrossesFile}
-use Rattle.refusal.specs.Rows.{refusedIf, downward}
+use Rattle.refusal.specs.Rows.{refusedIf, downward, unless}
 use Rattle.vtl2_ram.specs.declared.boot.NodeShare.{NodeShare}
 use Rattle.vtl2_ram.specs.declared.boot.NodeShare.the-variants.{Bytes, Refused}
-use Rattle.vtl2_ram.specs.Choice.{Choice, chosen, unless}
+use Rattle.vtl2_ram.specs.Choice.{Choice, refused, chosen}
 
 -- the RAM size: the one given, or the file's
 abbrev pub sizeWanted : OptionU64 → MemoryRange → ℕ
@@ -67,20 +67,20 @@ afterImports isolation file imports found share pieces nodes =
 unfoldable pub besideFile : IsolationType → MemoryRange → List MemoryRange → ℕ → List ℕ → List TaggedRange → List TaggedRange → Choice
 besideFile isolation file imports share nodes found pieces =
     let taken = afterImports isolation file imports found share pieces nodes in
-    unless (downward (refusedIf (not (importsClear file imports)) importCrossesFile ∷ taken .refusal ∷ []))
+    unless refused (downward (refusedIf (not (importsClear file imports)) importCrossesFile ∷ taken .refusal ∷ []))
     (chosen (sortByStart (pieces ++ taken .chosen)))
 
 -- the four parts, the file walk first
 unfoldable pub bootParts : IsolationType → MemoryRange → List TaggedRange → List MemoryRange → ℕ → List ℕ → Choice
 bootParts isolation file map imports share nodes =
     let pieces = fileWalk file map in
-    unless (pieces .refusal) (besideFile isolation file imports share nodes (pieces .free) (pieces .chosen))
+    unless refused (pieces .refusal) (besideFile isolation file imports share nodes (pieces .free) (pieces .chosen))
 
 -- rows 7, 8 and 9, then the parts
 unfoldable pub bootChoice : IsolationType → OptionU64 → MemoryRange → List TaggedRange → List MemoryRange → Choice
 bootChoice isolation size file map imports =
     let nodes = distinct (tagsOf map) in
-    unless (downward (refusedIf (nodesBad nodes) nodeNumbers ∷ shareRefusal size file (length nodes) ∷ []))
+    unless refused (downward (refusedIf (nodesBad nodes) nodeNumbers ∷ shareRefusal size file (length nodes) ∷ []))
     (bootParts isolation file map imports (shareOf (sizeWanted size file) (length nodes)) nodes)
 
 -- what rows 4 and 5 let through

@@ -1,7 +1,6 @@
 -- What a selection comes to (docs/SPEC.md, section 19).
 use Prim.Native.Nat.{ℕ}
 use mathlib.Core.List.{List, []}
-use mathlib.Core.Option.{Option, none, some}
 use Rattle.memory_range.specs.declared.range.TaggedRange.{TaggedRange}
 
 -- a refusal's number, or the chosen entries with their nodes, ascending by start
@@ -13,8 +12,3 @@ pub data Choice : Type 0 where
 abbrev pub entriesOf : Choice → List TaggedRange
 entriesOf (refused n) = []
 entriesOf (chosen xs) = xs
-
--- a refusal, if there is one, and else what comes after
-abbrev pub unless : Option ℕ → Choice → Choice
-unless (some n) c = refused n
-unless none c = c

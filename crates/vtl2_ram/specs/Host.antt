@@ -17,8 +17,8 @@ use Rattle.boot_ram.specs.Held.{bytesOf}
 use Rattle.boot_ram.specs.Verdict.{maxChosen}
 use Rattle.refusal.specs.Answer.{countedAs}
 use Rattle.refusal.specs.Number.{shareTooLarge, tooManyPieces}
-use Rattle.refusal.specs.Rows.{refusedIf}
-use Rattle.vtl2_ram.specs.Choice.{Choice, chosen, unless}
+use Rattle.refusal.specs.Rows.{refusedIf, unless}
+use Rattle.vtl2_ram.specs.Choice.{Choice, refused, chosen}
 use Rattle.host_map.specs.Map.{protectableIn}
 
 abbrev pub isHardwareIsolated : IsolationType → Bool
@@ -36,7 +36,7 @@ isolatedEnd file bytes = file .start + max bytes (lengthOf file)
 -- an isolated guest: one range from the file's start, on node 0
 abbrev pub isolatedChoice : MemoryRange → ℕ → Choice
 isolatedChoice file bytes =
-    unless (refusedIf (ltb (2 ^ 64 - pageSize) (isolatedEnd file bytes)) shareTooLarge)
+    unless refused (refusedIf (ltb (2 ^ 64 - pageSize) (isolatedEnd file bytes)) shareTooLarge)
     (chosen (tagged (file .start) (isolatedEnd file bytes) 0 ∷ []))
 
 -- how many protectable entries there are, or that they are too many
@@ -46,7 +46,7 @@ protectableCounted xs = countedAs (refusedIf (ltb maxChosen (length xs)) tooMany
 -- any other guest keeps the protectable entries; without one it gets the file, on node 0
 abbrev pub protectableChoice : MemoryRange → List TaggedRange → Choice
 protectableChoice file [] = chosen (tagged (file .start) (file .end) 0 ∷ [])
-protectableChoice file (x ∷ xs) = unless (refusedIf (ltb maxChosen (length (x ∷ xs))) tooManyPieces) (chosen (x ∷ xs))
+protectableChoice file (x ∷ xs) = unless refused (refusedIf (ltb maxChosen (length (x ∷ xs))) tooManyPieces) (chosen (x ∷ xs))
 
 unfoldable pub hostChoice : IsolationType → MemoryRange → List MemoryEntry → Choice
 hostChoice isolation file map =

@@ -30,6 +30,7 @@ use Rattle.boot_ram.specs.Verdict.{maxChosen}
 use Rattle.boot_take.specs.Take.{takeAll}
 use Rattle.refusal.specs.Number.{rangeInvalid, rangesNotAscending, mapCount, nodeNumbers, ramSizeBelowFile, shareTooLarge}
 use Rattle.refusal.specs.Number.{fileNotInMap, importCrossesFile, importNotInMap, nodeTooSmall, tooManyPieces}
+use Rattle.refusal.specs.Rule.{KeptBelow, BrokenAt}
 use Rattle.vtl2_ram.specs.Boot.{sizeWanted}
 use Rattle.vtl2_ram.specs.Claim.{shareIn, fileBytesOn}
 use Rattle.vtl2_ram.specs.Host.{isHardwareIsolated, isolatedEnd}
@@ -115,10 +116,10 @@ module _ (mode : MemoryAllocationMode) (isolation : IsolationType) (size : Optio
       ByMode mode (isHardwareIsolated isolation ≡ false → length (protectableIn map) ≤ maxChosen)
       (PiecesFit isolation file (entriesIn map) imports (shareIn size file map) (nodesIn map))
 
-  -- the rules of the rows below k are kept
+  -- the rules of the rows below a number are kept
   abbrev pub Kept : ℕ → Type 0
-  Kept k = (row : Row) → number row < k → Rule row
+  Kept = KeptBelow number Rule
 
-  -- a rule is broken, n is its number, and the rules that are looked at before it are kept
+  -- a rule is broken, and those that are looked at before it are kept
   abbrev pub Broken : ℕ → Type 0
-  Broken n = (row : Row) × (number row ≡ n) × (Rule row → ⊥) × Kept (lookedAt row)
+  Broken = BrokenAt number Rule lookedAt

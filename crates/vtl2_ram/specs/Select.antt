@@ -4,6 +4,7 @@ use mathlib.Core.Path.{_≡_}
 use mathlib.Core.Bool.{Bool}
 use mathlib.Core.List.{List}
 use lib.ListN.{length, take}
+use Rattle.refusal.specs.Rows.{unless}
 use Rattle.memory_range.specs.declared.range.MemoryRange.{MemoryRange}
 use Rattle.host_params.specs.declared.IsolationType.{IsolationType}
 use Rattle.host_params.specs.declared.MemoryAllocationMode.{MemoryAllocationMode}
@@ -15,7 +16,7 @@ use Rattle.host_map.specs.Rows.{checkStart, checkedAll}
 use Rattle.boot_nodes.specs.declared.node.NumaNodes.{NumaNodes}
 use Rattle.boot_nodes.specs.Node.{nodesIn, nodesHeld}
 use Rattle.vtl2_ram.specs.Boot.{bootChoice}
-use Rattle.vtl2_ram.specs.Choice.{Choice, unless}
+use Rattle.vtl2_ram.specs.Choice.{Choice, refused}
 use Rattle.vtl2_ram.specs.Host.{hostChoice}
 use Rattle.host_map.specs.Map.{maxEntries, mapOf, mapRanges, entriesIn}
 use Rattle.vtl2_ram.specs.Rows.{rowsRefusal, rowsKnown}
@@ -28,7 +29,7 @@ choiceBy Vtl2 isolation size file map imports = bootChoice isolation size file (
 -- rows 4 to 6, and then the mode's own
 unfoldable pub choice : MemoryAllocationMode → IsolationType → OptionU64 → MemoryRange → List MemoryEntry → List MemoryRange → Choice
 choice mode isolation size file map imports =
-    unless (rowsRefusal mode file (mapRanges map) imports) (choiceBy mode isolation size file map imports)
+    unless refused (rowsRefusal mode file (mapRanges map) imports) (choiceBy mode isolation size file map imports)
 
 -- the map that a copy holds, where it is within its bound
 abbrev pub copiedMap : Entries → List MemoryEntry
@@ -52,5 +53,5 @@ Listed k map ss es ns ls = (mapOf (take k ss) (take k es) (take k ns) (take k ls
 -- the choice from a copy of a map: the rows by what was seen of it
 unfoldable pub choiceCopied : MemoryAllocationMode → IsolationType → OptionU64 → MemoryRange → Entries → List MemoryRange → Choice
 choiceCopied mode isolation size file copy imports =
-    unless (rowsKnown mode file (copy .check .valid) (copy .check .ascending) (copy .count) imports)
+    unless refused (rowsKnown mode file (copy .check .valid) (copy .check .ascending) (copy .count) imports)
     (choiceBy mode isolation size file (copiedMap copy) imports)

@@ -9,7 +9,7 @@ use native.Mathlib.Omega.{arith}
 use borrow.Author.Tests.{eq-eqb, ne-eqb, lt-ltb, le-ltb}
 use lib.ListN.{length, take, drop, getD}
 use Rattle.refusal.specs.Number.{lengthZero, lengthTooLarge, alignmentInvalid, noFit}
-use Rattle.refusal.specs.Rows.{downward}
+use Rattle.refusal.specs.Rows.{downward, unless}
 use Rattle.memory_range.specs.declared.round.RoundedUp.the-variants.{To, TooLarge}
 use Rattle.memory_range.specs.Round.{roundUp, roundedUp}
 use Rattle.memory_range.specs.Valid.{pageSize}
@@ -24,7 +24,7 @@ use Rattle.address_space.specs.declared.search.Place.the-variants.{At, N
 use Rattle.address_space.specs.declared.table.AddressRange.{AddressRange}
 use Rattle.address_space.specs.declared.table.AddressSpaceManager.{AddressSpaceManager}
 use Rattle.address_space.specs.Fit.{fitsIn}
-use Rattle.address_space.specs.Request.{Outcome, refused, handed, alignmentGood, rowsRefusal, placed, placedFrom, allocated, unless, requested, lengthAs, allocationAs, missed, searchRefusal}
+use Rattle.address_space.specs.Request.{Outcome, refused, handed, alignmentGood, rowsRefusal, placed, placedFrom, allocated, requested, lengthAs, allocationAs, missed, searchRefusal}
 use Rattle.address_space.specs.Search.{Search, nothing, found, searched, belowIn, placeFound}
 use Rattle.address_space.specs.Table.{noEntry}
 use Rattle.address_space.specs.Laws.Search.{found-at}
@@ -61,11 +61,11 @@ module _ (len : ℕ) (alignment : OptionU64) where
       row-none h = rw (ne-eqb len 0 more, le-ltb (2 ^ 64 - pageSize) len (within len k to .0), h, within len k to .1)
 
 -- the rows' answer decides what comes after them
-unless-refused : (o : Option ℕ) (k n : ℕ) (x : Outcome) → lengthAs o k ≡ length-answer.Refused n → unless o x ≡ refused n
+unless-refused : (o : Option ℕ) (k n : ℕ) (x : Outcome) → lengthAs o k ≡ length-answer.Refused n → unless refused o x ≡ refused n
 unless-refused none k n x h = cc
 unless-refused (some m) k n x h = cc
 
-unless-rounded : (o : Option ℕ) (k n : ℕ) (f : ℕ → Outcome) → lengthAs o k ≡ length-answer.Rounded n → unless o (f k) ≡ f n
+unless-rounded : (o : Option ℕ) (k n : ℕ) (f : ℕ → Outcome) → lengthAs o k ≡ length-answer.Rounded n → unless refused o (f k) ≡ f n
 unless-rounded none k n f h = cc
 unless-rounded (some m) k n f h = cc
 
@@ -133,7 +133,7 @@ second-refused none k n f h = cc
 second-refused (some r) k n f h = cc
 
 missed-refused : (len : ℕ) (type : AllocationType) (policy : AllocationPolicy) (alignment : OptionU64) (o : Option ℕ) (s : Search AddressRange) (n : ℕ)
-    → downward (o ∷ missed s ∷ []) ≡ some n → unless o (placedFrom len type policy alignment s) ≡ refused n
+    → downward (o ∷ missed s ∷ []) ≡ some n → unless refused o (placedFrom len type policy alignment s) ≡ refused n
 missed-refused len type policy alignment (some r) s n h = cc
 missed-refused len type policy alignment none nothing n h = cc
 missed-refused len type policy alignment none (found before x after) n h = cc

@@ -82,6 +82,15 @@ found-first f (y ∷ before) x after h g = rw (h .0, found-first f before x afte
 reverse-around : {A : Type 0} (xs : List A) (x : A) (ys : List A) → reverse (xs ++ x ∷ ys) ≡ reverse ys ++ x ∷ reverse xs
 reverse-around xs x ys = rw (reverse-append xs (x ∷ ys), reverse-cons x ys, append-assoc)
 
+-- an element that passes, where none that is looked at before it does, is the one found: low looks at those below it, high at those above it
+pub low-found : {A : Type 0} (f : A → Bool) (below : List A) (x : A) (above : List A) → f x ≡ true → All (λ y. f y ≡ false) below
+    → searched LowMemory f (below ++ x ∷ above) ≡ found below x above
+low-found f below x above g h = found-first f below x above h g
+
+pub high-found : {A : Type 0} (f : A → Bool) (below : List A) (x : A) (above : List A) → f x ≡ true → All (λ y. f y ≡ false) above
+    → searched HighMemory f (below ++ x ∷ above) ≡ found (reverse above) x (reverse below)
+high-found f below x above g h = rw (reverse-around below x above) (found-first f (reverse above) x (reverse below) (all-reverse (λ y. f y ≡ false) above h) g)
+
 -- a list whose order of search has these parts
 in-order-splits : {A : Type 0} (policy : AllocationPolicy) (es before : List A) (x : A) (after : List A)
     → inOrder policy es ≡ before ++ x ∷ after → es ≡ belowIn policy before after ++ x ∷ aboveIn policy before after

@@ -11,7 +11,7 @@ use lib.Dec.{ltb, eqb}
 use lib.ListN.{length, take, drop, length-take, drop-of-length-le}
 use lib.Seq.{take-append-seam}
 use Rattle.refusal.specs.Number.{reservedOverlap, reservedOutsideUsed, poolRanges}
-use Rattle.refusal.specs.Rows.{refusedIf}
+use Rattle.refusal.specs.Rows.{refusedIf, unless}
 use Rattle.refusal.specs.Laws.Rows.{not-refused, downward-last}
 use Rattle.memory_range.specs.declared.range.MemoryRange.{MemoryRange}
 use Rattle.memory_range.specs.declared.range.TaggedRange.{TaggedRange}
@@ -24,7 +24,7 @@ use Rattle.memory_range.specs.Laws.Valid.{valid-parts}
 use Rattle.address_space.specs.declared.usage.ReservedMemoryType.the-variants.{Vtl2GpaPool}
 use Rattle.address_space.specs.declared.table.AddressSpaceManager.{AddressSpaceManager}
 use Rattle.memory.specs.declared.builder.AddressSpaceManagerBuilder.{AddressSpaceManagerBuilder}
-use Rattle.memory.specs.Build.{refused, build, filled, hasPool, initAs, refusedWith, unless}
+use Rattle.memory.specs.Build.{refused, build, filled, hasPool, initAs, refusedWith}
 use Rattle.memory.specs.Builder.{allAs, reservedOf, singlesValid}
 use Rattle.memory.specs.Rows.{rowsRefusal}
 use Rattle.refusal.specs.Answer.{countedAs}
@@ -152,12 +152,12 @@ has-pool (r ∷ rs) {n} e = rw (ne-eqb n 0 (λ z. omega arith))
 module _ (b : AddressSpaceManagerBuilder) (ram : List TaggedRange) (configs pools : List MemoryRange) where
   -- where one of rows 18 to 20 refuses, nothing is filled; where they pass, the table is
   pub build-stopped : (m : AddressSpaceManager) {n : ℕ} → usedRefusal b configs pools ≡ some n
-      → refusedWith m n ≡ initAs m (hasPool pools) (unless (usedRefusal b configs pools) (filled ram (usedOf b configs pools)))
+      → refusedWith m n ≡ initAs m (hasPool pools) (unless refused (usedRefusal b configs pools) (filled ram (usedOf b configs pools)))
   build-stopped m e = rw e
 
   pub build-filled : (m : AddressSpaceManager) {t : Bool} {used : List TaggedRange} → t ≡ hasPool pools → used ≡ usedOf b configs pools
       → usedRefusal b configs pools ≡ none
-      → initAs m t (filled ram used) ≡ initAs m (hasPool pools) (unless (usedRefusal b configs pools) (filled ram (usedOf b configs pools)))
+      → initAs m t (filled ram used) ≡ initAs m (hasPool pools) (unless refused (usedRefusal b configs pools) (filled ram (usedOf b configs pools)))
   build-filled m p u e = rw (p, u, e)
 
   -- the rows before them: one refuses, or all pass, and the table is empty
@@ -167,7 +167,7 @@ module _ (b : AddressSpaceManagerBuilder) (ram : List TaggedRange) (configs pool
     build-refused e = rw e
 
     module _ (e : rowsRefusal b entries (rangesIn ram) configs pools ≡ none) where
-      pub build-passed : build b entries ram configs pools ≡ unless (usedRefusal b configs pools) (filled ram (usedOf b configs pools))
+      pub build-passed : build b entries ram configs pools ≡ unless refused (usedRefusal b configs pools) (filled ram (usedOf b configs pools))
       unfolding build
       build-passed = rw e
 

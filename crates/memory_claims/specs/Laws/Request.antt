@@ -1,12 +1,12 @@
 -- Requests: on a sound table each leaves a sound table, and hands out what was free.
-use Prim.Native.Nat.{ℕ, _-_, _%_, _^_, _<_}
+use Prim.Native.Nat.{ℕ, _-_, _%_, _^_, _≤_, _<_}
 use mathlib.Core.Path.{_≡_, refl}
 use mathlib.Core.Bool.{true, false, not}
 use mathlib.Core.List.{List, [], _∷_}
 use mathlib.Core.Logic.{_↔_}
 use mathlib.Core.Option.{Option, none, some}
 use native.Mathlib.Omega.{arith}
-use borrow.Author.Tests.{eqb-false, not-false}
+use borrow.Author.Tests.{eqb-false, ltb-false, not-false}
 use lib.Dec.{ltb, eqb}
 use Rattle.refusal.specs.Number.{lengthZero, lengthTooLarge, alignmentInvalid, noFit}
 use Rattle.refusal.specs.Rows.{refusedIf}
@@ -68,18 +68,18 @@ module _ (asked : OptionU32) (len : ℕ) (type : AllocationType) (policy : Alloc
 
 module _ (asked : OptionU32) (len : ℕ) (type : AllocationType) (policy : AllocationPolicy) (alignment : OptionU64) (es : List AddressRange) where
   -- past the rows above the search a request is the search and the split
-  passed-rows : rowsRefusal len alignment ≡ none
+  pub passed-rows : rowsRefusal len alignment ≡ none
       → requested asked len type policy alignment es ≡ allocated asked (roundUp pageSize len) type policy alignment es
   passed-rows passed = requested-rounded asked len type policy alignment es (roundUp pageSize len) (rw passed)
 
-  pub rows-passed : rowsRefusal len alignment ≡ none → (0 < len) × (alignmentGood alignment ≡ true)
+  pub rows-passed : rowsRefusal len alignment ≡ none → (0 < len) × (alignmentGood alignment ≡ true) × (len ≤ 2 ^ 64 - pageSize)
   rows-passed passed =
       let last = refusedIf (not (alignmentGood alignment)) alignmentInvalid ∷ [] in
       let some-length = first-kept (eqb len 0) lengthZero (refusedIf (ltb (2 ^ 64 - pageSize) len) lengthTooLarge ∷ last) passed in
       let small = first-kept (ltb (2 ^ 64 - pageSize) len) lengthTooLarge last (some-length .1) in
       let good = first-kept (not (alignmentGood alignment)) alignmentInvalid [] (small .1) in
       let more = eqb-false len 0 (some-length .0) in
-      (omega arith, not-false (alignmentGood alignment) (good .0))
+      (omega arith, not-false (alignmentGood alignment) (good .0), ltb-false (2 ^ 64 - pageSize) len (small .0))
 
   -- a request
   pub requested-handed : (ram : List TaggedRange) (x : AllocatedRange) (es′ : List AddressRange)

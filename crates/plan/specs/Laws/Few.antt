@@ -9,6 +9,7 @@ use native.Mathlib.Omega.{arith}
 use borrow.Author.Tests.{ltb-false}
 use lib.Dec.{ltb, leb, eqb}
 use lib.ListN.{length, length-append}
+use Rattle.refusal.specs.Rows.{unless}
 use Rattle.refusal.specs.Number.{noFit, tableFull, poolTooLarge, poolSplit}
 use Rattle.memory_range.specs.declared.range.TaggedRange.{TaggedRange}
 use Rattle.range_lists.specs.Laws.Merge.{merge-count}
@@ -22,7 +23,7 @@ use Rattle.address_space.specs.declared.request.AllocatedRange.{AllocatedRange}
 use Rattle.address_space.specs.declared.table.AddressRange.{AddressRange}
 use Rattle.address_space.specs.Fit.{alignedTo, fitsIn}
 use Rattle.address_space.specs.List.{typedRanges, vtl2Ranges}
-use Rattle.address_space.specs.Request.{Outcome, handed, rowsRefusal, placedAs, placedFrom, allocated, unless, requested}
+use Rattle.address_space.specs.Request.{Outcome, refused, handed, rowsRefusal, placedAs, placedFrom, allocated, requested}
 use Rattle.address_space.specs.Request as request
 use Rattle.address_space.specs.Search.{Search, nothing, found, searched, belowIn, aboveIn}
 use Rattle.address_space.specs.Split.{allotted, splitEntry}
@@ -98,7 +99,7 @@ module _ (asked : OptionU32) (len : ℕ) (type : AllocationType) (policy : Alloc
   unfolding allocated
   allocated-few = search-few (searched policy (fitsIn asked len alignment) es)
 
-unless-few : (u : Option ℕ) (o : Outcome) → Few o → Few (unless u o)
+unless-few : (u : Option ℕ) (o : Outcome) → Few o → Few (unless refused u o)
 unless-few (some n) o h = tt
 unless-few none o h = h
 

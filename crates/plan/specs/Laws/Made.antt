@@ -5,6 +5,7 @@ use mathlib.Core.List.{List}
 use mathlib.Core.Option.{Option, none, some}
 use native.Mathlib.Omega.{arith}
 use lib.ListN.{length}
+use Rattle.refusal.specs.Rows.{unless}
 use Rattle.memory_range.specs.declared.range.TaggedRange.{TaggedRange}
 use Rattle.boot_ram.specs.Held.{bytesOf}
 use Rattle.vtl2_ram.specs.Choice.{Choice, chosen}
@@ -24,7 +25,7 @@ use Rattle.plan_input.specs.Input.{Input, inputOf}
 use Rattle.private_pool.specs.Pool.{Placement, placed}
 use Rattle.private_pool.specs.Pool as placement
 use Rattle.plan.specs.declared.line.OutputLine.{OutputLine}
-use Rattle.plan.specs.Planner.{Plan, refused, lines, planLines, afterPool, afterBuild, afterChoice, unless, rangesRefusal, selectedPlan, recordsPlan, recordsGiven, checkedPlan, planOf}
+use Rattle.plan.specs.Planner.{Plan, refused, lines, planLines, afterPool, afterBuild, afterChoice, rangesRefusal, selectedPlan, recordsPlan, recordsGiven, checkedPlan, planOf}
 use Rattle.plan.specs.Pool.{pagesWanted, placedFor}
 
 -- the records of the text are read; the RAM is chosen, the table built, and the pool placed, if there is one; and the lines are of these
@@ -48,7 +49,7 @@ pub record Made (text : List ℕ) (ls : List OutputLine) : Type 0 where
 not-lines : {n : ℕ} {ls : List OutputLine} → _≡_ {A = Plan} (refused n) (lines ls) → ⊥
 not-lines e = let z : _≡_ {A = ℕ} 0 1 = cc in omega arith
 
-unless-lines : (u : Option ℕ) (p : Plan) {ls : List OutputLine} → unless u p ≡ lines ls → p ≡ lines ls
+unless-lines : (u : Option ℕ) (p : Plan) {ls : List OutputLine} → unless refused u p ≡ lines ls → p ≡ lines ls
 unless-lines none p e = e
 unless-lines (some n) p e = absurd (not-lines e)
 

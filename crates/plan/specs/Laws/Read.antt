@@ -7,7 +7,7 @@ use native.Mathlib.Omega.{arith}
 use lib.ListN.{length, take, replicate, length-replicate}
 use lib.Seq.{sets, length-sets}
 use Rattle.refusal.specs.Number.{rangeInvalid, rangesNotAscending}
-use Rattle.refusal.specs.Rows.{refusedIf, downward}
+use Rattle.refusal.specs.Rows.{refusedIf, downward, unless}
 use Rattle.memory_range.specs.declared.range.MemoryRange.{MemoryRange}
 use Rattle.memory_range.specs.List.{rangesOf}
 use Rattle.memory_range.specs.Valid.{validRange, allValid, ascend}
@@ -40,7 +40,7 @@ use Rattle.plan_input.specs.Input.{inputRead, getsFirst}
 use Rattle.plan_input.specs.Laws.Record.{records-accepted}
 use Rattle.plan_input.specs.Laws.Input.{input-read, valid-read}
 use Rattle.plan_input.specs.Laws.Room.{stored-ranges, stored-map, choice-room, build-room}
-use Rattle.plan.specs.Planner.{planOf, recordsPlan, rangesRefusal, selectedPlan, afterBuild, afterChoice, unless, choiceOf, Selected}
+use Rattle.plan.specs.Planner.{planOf, recordsPlan, rangesRefusal, selectedPlan, afterBuild, afterChoice, refused as planRefused, choiceOf, Selected}
 use Rattle.plan.specs.Planner as plan
 
 -- a test that is turned round
@@ -154,7 +154,7 @@ module _ (text : List ℕ) (a : textCheck text ≡ Accepted) where
 
   -- the plan by what is read: row 4, row 5, and then selection
   plan-rows : planOf text
-      ≡ unless (downward (refusedIf (not (selectionValid && buildValid)) rangeInvalid ∷ refusedIf (not listsAscend) rangesNotAscending ∷ []))
+      ≡ unless planRefused (downward (refusedIf (not (selectionValid && buildValid)) rangeInvalid ∷ refusedIf (not listsAscend) rangesNotAscending ∷ []))
       (selectedPlan (inputRead (recordsAt text 0)))
   unfolding recordsPlan rangesRefusal inputRead
   plan-rows = plan-of ∙ rw (valid-read (recordsAt text 0) in-order, ← input-read (recordsAt text 0) in-order)

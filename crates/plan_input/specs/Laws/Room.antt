@@ -11,6 +11,7 @@ use borrow.Author.Tests.{lt-leb, lt-ltb}
 use lib.Dec.{leb}
 use lib.ListN.{length, take, set, length-take}
 use lib.Seq.{sets, take-all, take-nil}
+use Rattle.refusal.specs.Rows.{unless}
 use Rattle.refusal.specs.Number.{mapCount}
 use Rattle.memory_range.specs.declared.range.MemoryRange.{MemoryRange}
 use Rattle.memory_range.specs.declared.range.TaggedRange.{TaggedRange}
@@ -27,7 +28,7 @@ use Rattle.vtl2_ram.specs.Select.{choice}
 use Rattle.vtl2_ram.specs.Laws.Map.{map-again, length-map-ranges}
 use Rattle.vtl2_ram.specs.Laws.Rows.{rows-count}
 use Rattle.memory.specs.declared.builder.AddressSpaceManagerBuilder.{AddressSpaceManagerBuilder}
-use Rattle.memory.specs.Build.{Build, build, filled, unless}
+use Rattle.memory.specs.Build.{Build, refused as buildRefused, build, filled}
 use Rattle.memory.specs.Builder.{reservedCount}
 use Rattle.memory.specs.Rows.{rowsRefusal}
 use Rattle.memory.specs.Used.{usedOf, usedRefusal}
@@ -163,7 +164,7 @@ choice-room mode isolation size file m is f v w a b =
     map-room mode isolation size file f m (take importRoom is) (v, a) (good-take importRoom is (w, b)) ∙ import-room mode isolation size file f m is (v, a) (w, b)
 
 -- the build: where rows refuse, what comes behind them makes no difference
-either : (o : Option ℕ) (x y : Build) → (o ≡ none → ⊥) → unless o x ≡ unless o y
+either : (o : Option ℕ) (x y : Build) → (o ≡ none → ⊥) → unless buildRefused o x ≡ unless buildRefused o y
 either none x y h = absurd (h refl)
 either (some n) x y h = refl
 

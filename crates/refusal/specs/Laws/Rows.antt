@@ -1,10 +1,11 @@
 -- What a row that does not refuse shows, how rows are passed over, and which one a number comes from.
 use Prim.Native.Nat.{ℕ}
-use mathlib.Core.Path.{_≡_, refl}
-use mathlib.Core.Bool.{Bool, true, false}
+use mathlib.Core.Path.{_≡_, refl, sym, ap, _∙_}
+use mathlib.Core.Bool.{Bool, true, false, not, true≢false}
 use mathlib.Core.List.{List, [], _∷_}
 use mathlib.Core.Option.{Option, none, some, Option·some-ne-none, Option·some-injective, Option·none-ne-some}
-use Rattle.refusal.specs.Rows.{refusedIf, downward}
+use borrow.Author.Tests.{not-true}
+use Rattle.refusal.specs.Rows.{refusedIf, downward, unless}
 
 -- a rule that does not refuse is kept
 pub not-refused : (b : Bool) (n : ℕ) → refusedIf b n ≡ none → b ≡ false
@@ -37,3 +38,13 @@ told-in-turn P false k rows here below e = below refl e
 pub downward-last : (row : Option ℕ) → downward (row ∷ []) ≡ row
 downward-last none = refl
 downward-last (some n) = refl
+
+-- what is shown of a refusal that comes first, and of one that comes after, holds of the number that is told
+pub unless-told : {A : Type 0} (refused : ℕ → A) → ((k n : ℕ) → refused k ≡ refused n → k ≡ n) → (P : ℕ → Type 0) (u : Option ℕ) (x : A) {n : ℕ}
+    → (u ≡ some n → P n) → (u ≡ none → x ≡ refused n → P n) → unless refused u x ≡ refused n → P n
+unless-told refused same P (some k) x here after e = here (ap some (same k _ e))
+unless-told refused same P none x here after e = after refl e
+
+-- a test that says false of what is true
+pub contrary : (b : Bool) → b ≡ true → not b ≡ true → ⊥
+contrary b e f = true≢false (sym e ∙ not-true b f)

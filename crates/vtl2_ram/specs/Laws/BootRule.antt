@@ -31,7 +31,7 @@ use Rattle.boot_ram.specs.Verdict.{Judged}
 use Rattle.boot_ram.specs.Laws.Paged.{paged-all, entries-paged}
 use Rattle.refusal.specs.Number.{nodeNumbers, ramSizeBelowFile, shareTooLarge, importCrossesFile, importNotInMap, fileNotInMap, tooManyPieces, nodeTooSmall}
 use Rattle.refusal.specs.Rows.{refusedIf, downward}
-use Rattle.refusal.specs.Laws.Rows.{told-in-turn, downward-last, first-kept}
+use Rattle.refusal.specs.Laws.Rows.{told-in-turn, downward-last, first-kept, contrary}
 use Rattle.vtl2_ram.specs.Choice.{refused, chosen}
 use Rattle.vtl2_ram.specs.Rows.{rowsRefusal}
 use Rattle.vtl2_ram.specs.Rule.{Row, row4, row5, row7, row8, row9, row10, row11, row12, row13, row14, Rule, Broken, FreeOn, Kept, number}
@@ -44,14 +44,14 @@ use Rattle.boot_ram.specs.Laws.Import.{import-fits, AtPages, import-told, impor
 use Rattle.boot_take.specs.Laws.Taking.{taking-bytes, taking-fits, taking-told}
 use Rattle.boot_take.specs.Laws.Bounds.{file-bounds}
 use Rattle.vtl2_ram.specs.Laws.Parts.{taken-within, Accepted}
-use Rattle.vtl2_ram.specs.Laws.Choice.{unless-chosen, unless-told, chosen-not-refused}
+use Rattle.vtl2_ram.specs.Laws.Choice.{unless-chosen, choice-told, chosen-not-refused}
 use Rattle.vtl2_ram.specs.Laws.Select.{boot-rows, boot-accepted}
 use Rattle.vtl2_ram.specs.Laws.Boot.{after-refused, after-taken}
 use Rattle.boot_ram.specs.File.{fileWalk}
 use Rattle.boot_take.specs.Take.{taking}
 use Rattle.boot_ram.specs.Laws.ByNode.{by-nodes}
 use Rattle.vtl2_ram.specs.Laws.Claim.{file-bytes}
-use Rattle.vtl2_ram.specs.Laws.RuleTests.{contrary, kept-clear, clear-kept, below-has, nodes-kept, size-below, size-kept, first-rows}
+use Rattle.vtl2_ram.specs.Laws.RuleTests.{kept-clear, clear-kept, below-has, nodes-kept, size-below, size-kept, first-rows}
 use Rattle.vtl2_ram.specs.Laws.RuleOrder.{kept-more}
 
 module _ (isolation : IsolationType) (size : OptionU64) (file : MemoryRange) (map : List MemoryEntry) (imports : List MemoryRange) where
@@ -181,7 +181,7 @@ module _ (isolation : IsolationType) (size : OptionU64) (file : MemoryRange) (ma
       beside-broken {n} =
           let taken = afterImports isolation file imports (filed .free) share (filed .chosen) nodes in
           let crosses = not (importsClear file imports) in
-          unless-told BootBroken (downward (refusedIf crosses importCrossesFile ∷ taken .refusal ∷ []))
+          choice-told BootBroken (downward (refusedIf crosses importCrossesFile ∷ taken .refusal ∷ []))
           (chosen (sortByStart (filed .chosen ++ taken .chosen)))
           (told-in-turn BootBroken crosses importCrossesFile (taken .refusal ∷ [])
           (λ c. (row11, refl, λ h. contrary (importsClear file imports) (kept-clear file imports h) c, upto10))
@@ -191,7 +191,7 @@ module _ (isolation : IsolationType) (size : OptionU64) (file : MemoryRange) (ma
     parts-broken : {n : ℕ} → bootParts isolation file entries imports share nodes ≡ refused n → BootBroken n
     unfolding bootParts
     parts-broken =
-        unless-told BootBroken (filed .refusal) (besideFile isolation file imports share nodes (filed .free) (filed .chosen)) file-broken
+        choice-told BootBroken (filed .refusal) (besideFile isolation file imports share nodes (filed .free) (filed .chosen)) file-broken
         (λ walked e. beside-broken walked e)
 
   -- rows 7 to 9, where rows 4 to 6 are passed
@@ -227,7 +227,7 @@ module _ (isolation : IsolationType) (size : OptionU64) (file : MemoryRange) (ma
     pub boot-broken : {n : ℕ} → bootChoice isolation size file entries imports ≡ refused n → BootBroken n
     unfolding bootChoice
     boot-broken =
-        unless-told BootBroken (downward (refusedIf (nodesBad nodes) nodeNumbers ∷ shareRefusal size file count ∷ []))
+        choice-told BootBroken (downward (refusedIf (nodesBad nodes) nodeNumbers ∷ shareRefusal size file count ∷ []))
         (bootParts isolation file entries imports share nodes)
         (told-in-turn BootBroken (nodesBad nodes) nodeNumbers (shareRefusal size file count ∷ [])
         (λ e. (row7, refl, λ h. true≢false (sym e ∙ nodes-kept nodes h), passed))

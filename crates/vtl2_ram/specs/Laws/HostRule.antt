@@ -26,7 +26,7 @@ use Rattle.vtl2_ram.specs.Rows.{rowsRefusal}
 use Rattle.vtl2_ram.specs.Rule.{Row, row7, row8, row9, row10, row11, row12, row13, row14, Rule, Broken, Kept, number}
 use Rattle.vtl2_ram.specs.Select.{choice, choiceBy}
 use Rattle.vtl2_ram.specs.Host.{isHardwareIsolated, isolatedEnd, isolatedChoice, protectableChoice, hostChoice}
-use Rattle.vtl2_ram.specs.Laws.Choice.{unless-chosen, unless-told, chosen-not-refused}
+use Rattle.vtl2_ram.specs.Laws.Choice.{unless-chosen, choice-told, chosen-not-refused}
 use Rattle.vtl2_ram.specs.Laws.RuleTests.{first-rows}
 use Rattle.vtl2_ram.specs.Laws.RuleOrder.{kept-more}
 
@@ -60,7 +60,7 @@ module _ (isolation : IsolationType) (size : OptionU64) (file : MemoryRange) (ma
       other : isHardwareIsolated isolation ≡ false → (xs : List TaggedRange) → protectable ≡ xs → protectableChoice file xs ≡ refused n → HostBroken n
       other i [] p e = absurd (chosen-not-refused e)
       other i (x ∷ xs) p e =
-          unless-told HostBroken (refusedIf (ltb maxChosen (length (x ∷ xs))) tooManyPieces) (chosen (x ∷ xs))
+          choice-told HostBroken (refusedIf (ltb maxChosen (length (x ∷ xs))) tooManyPieces) (chosen (x ∷ xs))
           (rule-told HostBroken (ltb maxChosen (length (x ∷ xs))) tooManyPieces
           (λ l. (
             row14,
@@ -73,7 +73,7 @@ module _ (isolation : IsolationType) (size : OptionU64) (file : MemoryRange) (ma
       by : (t : Bool) → isHardwareIsolated isolation ≡ t → cond t (isolatedChoice file (bytesOf protectable)) (protectableChoice file protectable) ≡ refused n
           → HostBroken n
       by true i e =
-          unless-told HostBroken (refusedIf (ltb (2 ^ 64 - pageSize) isolatedTop) shareTooLarge) (chosen (tagged (file .start) isolatedTop 0 ∷ []))
+          choice-told HostBroken (refusedIf (ltb (2 ^ 64 - pageSize) isolatedTop) shareTooLarge) (chosen (tagged (file .start) isolatedTop 0 ∷ []))
           (rule-told HostBroken (ltb (2 ^ 64 - pageSize) isolatedTop) shareTooLarge
           (λ l. (row9, refl, λ h. absurd (omega (arith, ltb-true (2 ^ 64 - pageSize) isolatedTop l, h i)), upto8 passed)))
           (λ _ f. absurd (chosen-not-refused f)) e

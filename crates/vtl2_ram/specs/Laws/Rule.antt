@@ -16,7 +16,7 @@ use Rattle.vtl2_ram.specs.Rule.{Row, Rule, Broken}
 use Rattle.vtl2_ram.specs.Choice.{refused, chosen, Choice}
 use Rattle.vtl2_ram.specs.Rows.{rowsRefusal}
 use Rattle.vtl2_ram.specs.Select.{choice, choiceBy}
-use Rattle.vtl2_ram.specs.Laws.Choice.{unless-told}
+use Rattle.vtl2_ram.specs.Laws.Choice.{choice-told}
 use Rattle.vtl2_ram.specs.Laws.RuleTests.{rows-break, rows-keep}
 use Rattle.vtl2_ram.specs.Laws.BootRule.{boot-broken, boot-kept}
 use Rattle.vtl2_ram.specs.Laws.HostRule.{host-broken, host-kept}
@@ -33,7 +33,7 @@ module _ (mode : MemoryAllocationMode) (isolation : IsolationType) (size : Optio
   pub refused-broken : {n : ℕ} → choice mode isolation size file map imports ≡ refused n → Broken mode isolation size file map imports n
   unfolding choice
   refused-broken =
-      unless-told (Broken mode isolation size file map imports) (rowsRefusal mode file (mapRanges map) imports)
+      choice-told (Broken mode isolation size file map imports) (rowsRefusal mode file (mapRanges map) imports)
       (choiceBy mode isolation size file map imports) (rows-break mode isolation size file map imports) (λ e f. own-broken mode e f)
 
   -- an accepted selection keeps every rule

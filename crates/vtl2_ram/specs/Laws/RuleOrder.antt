@@ -1,9 +1,8 @@
--- The rules of rows that are kept add up, one row after the other.
+-- The rows of selection have the numbers 4 to 14, so that their rules add up one after the other.
 use Prim.Native.Nat.{ℕ, _+_, _≤_}
-use mathlib.Core.Path.{_≡_, refl, sym, ap, _∙_}
+use mathlib.Core.Path.{_≡_, refl}
 use mathlib.Core.Bool.{cond}
 use mathlib.Core.List.{List}
-use native.Mathlib.Decide.{ℕ-discrete}
 use native.Mathlib.Omega.{arith}
 use lib.Dec.{leb}
 use Rattle.memory_range.specs.declared.range.MemoryRange.{MemoryRange}
@@ -12,6 +11,7 @@ use Rattle.host_params.specs.declared.MemoryAllocationMode.{MemoryAllocationMod
 use Rattle.host_params.specs.declared.MemoryEntry.{MemoryEntry}
 use Rattle.host_params.specs.declared.OptionU64.{OptionU64}
 use Rattle.refusal.specs.Number.{rangeInvalid, tooManyPieces}
+use Rattle.refusal.specs.Laws.Rule as rule
 use Rattle.vtl2_ram.specs.Rule.{Row, row4, row5, row6, row7, row8, row9, row10, row11, row12, row13, row14, number, Rule, Kept}
 
 -- the numbers of the rows are 4 to 14, each of one row
@@ -49,15 +49,11 @@ row-of row14 = refl
 module _ (mode : MemoryAllocationMode) (isolation : IsolationType) (size : OptionU64) (file : MemoryRange) (map : List MemoryEntry)
     (imports : List MemoryRange) where
   pub kept-none : Kept mode isolation size file map imports rangeInvalid
-  kept-none row l = absurd (omega (arith, numbered row .0))
+  kept-none = rule.kept-none number (Rule mode isolation size file map imports) rangeInvalid (λ row. numbered row .0)
 
   pub kept-more : (row : Row) → Kept mode isolation size file map imports (number row) → Rule mode isolation size file map imports row
       → Kept mode isolation size file map imports (number row + 1)
-  kept-more row k h other l = go (ℕ-discrete (number other) (number row))
-    where
-      go : Dec (number other ≡ number row) → Rule mode isolation size file map imports other
-      go (yes e) = rw (sym (row-of other) ∙ ap rowOf e ∙ row-of row) h
-      go (no d) = k other (omega arith)
+  kept-more = rule.kept-more number (Rule mode isolation size file map imports) rowOf row-of
 
   pub kept-all : Kept mode isolation size file map imports (tooManyPieces + 1) → (row : Row) → Rule mode isolation size file map imports row
-  kept-all k row = k row (omega (arith, numbered row .1))
+  kept-all = rule.kept-all number (Rule mode isolation size file map imports) (tooManyPieces + 1) (λ row. omega (arith, numbered row .1))

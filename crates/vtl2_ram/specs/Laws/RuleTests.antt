@@ -28,7 +28,7 @@ use Rattle.boot_ram.specs.Import.{importsClear}
 use Rattle.boot_ram.specs.Laws.Paged.{all-paged, paged-all}
 use Rattle.refusal.specs.Number.{rangeInvalid, rangesNotAscending, mapCount, nodeNumbers}
 use Rattle.refusal.specs.Rows.{refusedIf}
-use Rattle.refusal.specs.Laws.Rows.{told-in-turn}
+use Rattle.refusal.specs.Laws.Rows.{told-in-turn, contrary}
 use Rattle.vtl2_ram.specs.Choice.{chosen}
 use Rattle.vtl2_ram.specs.Rows.{isBoot, maxImports, countsGood, rowsRefusal, rowsKnown}
 use Rattle.vtl2_ram.specs.Rule.{Row, row4, row5, row6, number, InBoot, InsideOrOutside, Rule, Kept, Broken}
@@ -39,10 +39,6 @@ use Rattle.vtl2_ram.specs.Laws.Choice.{unless-chosen}
 use Rattle.vtl2_ram.specs.Laws.Map.{length-map-ranges}
 use Rattle.vtl2_ram.specs.Laws.RuleOrder.{kept-none, kept-more}
 use Rattle.vtl2_ram.specs.Laws.Rows.{rows-passed}
-
--- a test that says false of what is true
-pub contrary : (b : Bool) → b ≡ true → not b ≡ true → ⊥
-contrary b e f = true≢false (sym e ∙ not-true b f)
 
 -- row 6, of the counts
 counts-kept : (mode : MemoryAllocationMode) (m i : ℕ) → countsGood mode m i ≡ true → (m ≤ maxEntries) × (i ≤ maxImports) × InBoot mode (0 < m)

@@ -27,9 +27,9 @@ use Rattle.boot_take.specs.Take.{taking}
 use Rattle.boot_nodes.specs.Laws.Node.{distinct-ascends}
 use Rattle.boot_ram.specs.Laws.Paged.{entries-valid}
 use Rattle.refusal.specs.Number.{nodeNumbers}
-use Rattle.refusal.specs.Rows.{refusedIf, downward}
+use Rattle.refusal.specs.Rows.{refusedIf, downward, unless}
 use Rattle.vtl2_ram.specs.Boot.{shareRefusal, afterImports, besideFile, bootParts, bootChoice, RowsPassed}
-use Rattle.vtl2_ram.specs.Choice.{chosen, unless}
+use Rattle.vtl2_ram.specs.Choice.{refused, chosen}
 use Rattle.vtl2_ram.specs.Claim.{shareIn, InOrder, BootClaim}
 use Rattle.host_map.specs.Entries.{entriesHeld}
 use Rattle.host_map.specs.Map.{mapRanges, entriesIn}
@@ -121,8 +121,8 @@ unfolding choiceCopied choice
 choice-copied mode isolation size file map imports = rw (rows-copied mode file map imports) (go (rowsRefusal mode file (mapRanges map) imports) refl)
   where
     go : (row : Option ℕ) → rowsRefusal mode file (mapRanges map) imports ≡ row
-        → unless row (choiceBy mode isolation size file (copiedMap (entriesHeld map)) imports)
-        ≡ unless row (choiceBy mode isolation size file map imports)
+        → unless refused row (choiceBy mode isolation size file (copiedMap (entriesHeld map)) imports)
+        ≡ unless refused row (choiceBy mode isolation size file map imports)
     go (some n) e = refl
     go none e =
         let counts = rows-passed mode file (mapRanges map) imports e .5 in
