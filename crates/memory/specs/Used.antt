@@ -4,9 +4,11 @@ use Prim.Native.Nat.{ℕ, _+_, _<_}
 use mathlib.Core.Path.{_≡_}
 use mathlib.Core.Bool.{Bool, true, false, cond, _||_}
 use mathlib.Core.List.{List, [], _∷_, _++_}
-use mathlib.Core.Option.{Option}
+use mathlib.Core.Option.{Option, none}
 use lib.Dec.{ltb}
 use lib.ListN.{length, getD}
+use Rattle.refusal.specs.declared.answer.Counted.{Counted}
+use Rattle.refusal.specs.Answer.{countedAs}
 use Rattle.refusal.specs.Number.{reservedOverlap, reservedOutsideUsed, poolRanges}
 use Rattle.refusal.specs.Rows.{refusedIf, downward}
 use Rattle.memory_range.specs.declared.range.MemoryRange.{MemoryRange}
@@ -14,7 +16,7 @@ use Rattle.memory_range.specs.declared.range.TaggedRange.{TaggedRange}
 use Rattle.range_lists.specs.declared.walk.RangeWalkResult.{RangeWalkResult}
 use Rattle.range_lists.specs.declared.walk.RangeWalkResult.the-variants.{Left, Right, Both}
 use Rattle.range_lists.specs.declared.walk.WalkPiece.{WalkPiece}
-use Rattle.memory_range.specs.List.{rangesIn, tagsOf}
+use Rattle.memory_range.specs.List.{rangesIn, tagsOf, firstTagged}
 use Rattle.memory_range.specs.Bytes.{All, holders}
 use Rattle.memory_range.specs.Range.{overlapRanges, holds}
 use Rattle.range_lists.specs.Sort.{sortByStart}
@@ -88,6 +90,11 @@ usedRefusal b configs pools =
     ∷ refusedIf (anyOutside (b .«bootshim_used» ∷ []) (rangesIn (sortByStart (reservedOf b configs)))) reservedOutsideUsed
     ∷ refusedIf (poolsBad (b .«bootshim_used») (length (piecesUsed b configs)) pools) poolRanges
     ∷ [])
+
+-- of a function that lists ranges in three arrays: it answers a refusal, or how many they are, and then the arrays begin with them
+pub record ListedIn (refusal : Option ℕ) (xs : List TaggedRange) (answer : Counted) (ss es ts : List ℕ) : Type 0 where
+  pub answered : answer ≡ countedAs refusal (length xs)
+  pub found : refusal ≡ none → firstTagged (length xs) ss es ts ≡ xs
 
 -- three arrays of one length
 abbrev pub RoomFor : ℕ → List ℕ → List ℕ → List ℕ → Type 0

@@ -54,10 +54,10 @@ pub(crate) fn fill_table<'a>(
 ) -> Init
     requires { ⌜ length (taggedOf (now «ram_starts») (now «ram_ends») (now «ram_nodes»)) ≤ maxRam ⌝
         ∗ ⌜ length (taggedOf (now «used_starts») (now «used_ends») (now «used_tags»)) ≤ maxUsed ⌝ }
-    ensures { λ r. ⌜
-        r ≡ initAs manager pool (filled
-        (taggedOf (now («ram_starts» .entry)) (now («ram_ends» .entry)) (now («ram_nodes» .entry)))
-        (taggedOf (now («used_starts» .entry)) (now («used_ends» .entry)) (now («used_tags» .entry))))
+    ensures { λ r.
+        let ram = taggedOf (now («ram_starts» .entry)) (now («ram_ends» .entry)) (now («ram_nodes» .entry)) in
+        let used = taggedOf (now («used_starts» .entry)) (now («used_ends» .entry)) (now («used_tags» .entry)) in ⌜
+        r ≡ initAs manager pool (filled ram used)
         ⌝ }
 {
     let ram = tagged_count(ram_starts, ram_ends, ram_nodes);

@@ -44,19 +44,17 @@ fn build_table<'a>(
     pool_starts: &'a [u64],
     pool_ends: &'a [u64],
 ) -> Init
-    requires { ⌜
-        rowsRefusal builder 0
-        (rangesIn (taggedOf (now «ram_starts») (now «ram_ends») (now «ram_nodes»)))
-        (rangesOf (now «config_starts») (now «config_ends»))
-        (rangesOf (now «pool_starts») (now «pool_ends»))
-        ≡ none ⌝ }
-    ensures { λ r. ⌜
-        r ≡ initAs manager (hasPool (rangesOf (now («pool_starts» .entry)) (now («pool_ends» .entry))))
-        (unless buildRefused (usedRefusal builder (rangesOf (now («config_starts» .entry)) (now («config_ends» .entry)))
-        (rangesOf (now («pool_starts» .entry)) (now («pool_ends» .entry))))
-        (filled (taggedOf (now («ram_starts» .entry)) (now («ram_ends» .entry)) (now («ram_nodes» .entry)))
-        (usedOf builder (rangesOf (now («config_starts» .entry)) (now («config_ends» .entry)))
-        (rangesOf (now («pool_starts» .entry)) (now («pool_ends» .entry))))))
+    requires { let ram = taggedOf (now «ram_starts») (now «ram_ends») (now «ram_nodes») in
+        let configs = rangesOf (now «config_starts») (now «config_ends») in
+        let pools = rangesOf (now «pool_starts») (now «pool_ends») in ⌜
+        rowsRefusal builder 0 (rangesIn ram) configs pools ≡ none
+        ⌝ }
+    ensures { λ r.
+        let ram = taggedOf (now («ram_starts» .entry)) (now («ram_ends» .entry)) (now («ram_nodes» .entry)) in
+        let configs = rangesOf (now («config_starts» .entry)) (now («config_ends» .entry)) in
+        let pools = rangesOf (now («pool_starts» .entry)) (now («pool_ends» .entry)) in ⌜
+        r ≡ initAs manager (hasPool pools)
+        (unless buildRefused (usedRefusal builder configs pools) (filled ram (usedOf builder configs pools)))
         ⌝ }
 {
     let mut used_starts = [0; MAX_USED_RANGES];
@@ -99,12 +97,11 @@ impl AddressSpaceManagerBuilder {
         pool_starts: &'a [u64],
         pool_ends: &'a [u64],
     ) -> Init
-        ensures { λ r. ⌜
-            r ≡ initAs manager (hasPool (rangesOf (now («pool_starts» .entry)) (now («pool_ends» .entry))))
-            (build self (length (entriesOf manager))
-            (taggedOf (now («ram_starts» .entry)) (now («ram_ends» .entry)) (now («ram_nodes» .entry)))
-            (rangesOf (now («config_starts» .entry)) (now («config_ends» .entry)))
-            (rangesOf (now («pool_starts» .entry)) (now («pool_ends» .entry))))
+        ensures { λ r.
+            let ram = taggedOf (now («ram_starts» .entry)) (now («ram_ends» .entry)) (now («ram_nodes» .entry)) in
+            let configs = rangesOf (now («config_starts» .entry)) (now («config_ends» .entry)) in
+            let pools = rangesOf (now («pool_starts» .entry)) (now («pool_ends» .entry)) in ⌜
+            r ≡ initAs manager (hasPool pools) (build self (length (entriesOf manager)) ram configs pools)
             ⌝ }
     {
         let ram = tagged_count(ram_starts, ram_ends, ram_nodes);

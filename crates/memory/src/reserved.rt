@@ -25,9 +25,9 @@ fn put_option(
     range: OptionRange,
     reserved: ReservedMemoryType,
 ) -> usize
-    requires { ⌜ (count + optionCount range ≤ length (now starts))
-        × (count + optionCount range ≤ length (now ends))
-        × (count + optionCount range ≤ length (now tags)) ⌝ }
+    requires { let more = count + optionCount range in ⌜
+        (more ≤ length (now starts)) × (more ≤ length (now ends)) × (more ≤ length (now tags))
+        ⌝ }
     ensures { λ r. ⌜ r ≡ count + optionCount range ⌝ }
     ensures { λ r. ⌜
         firstTagged r (now (starts .exit)) (now (ends .exit)) (now (tags .exit))
@@ -53,14 +53,14 @@ pub(crate) fn put_all<'a>(
     tags: &mut [u32],
     count: usize,
 ) -> usize
-    requires { ⌜ (count + length (rangesOf (now «list_starts») (now «list_ends»)) ≤ length (now starts))
-        × (count + length (rangesOf (now «list_starts») (now «list_ends»)) ≤ length (now ends))
-        × (count + length (rangesOf (now «list_starts») (now «list_ends»)) ≤ length (now tags)) ⌝ }
-    ensures { λ r. ⌜ r ≡ count + length (rangesOf (now («list_starts» .entry)) (now («list_ends» .entry))) ⌝ }
-    ensures { λ r. ⌜
-        firstTagged r (now (starts .exit)) (now (ends .exit)) (now (tags .exit))
-        ≡ firstTagged count (now (starts .entry)) (now (ends .entry)) (now (tags .entry))
-        ++ allAs reserved (rangesOf (now («list_starts» .entry)) (now («list_ends» .entry)))
+    requires { let more = count + length (rangesOf (now «list_starts») (now «list_ends»)) in ⌜
+        (more ≤ length (now starts)) × (more ≤ length (now ends)) × (more ≤ length (now tags))
+        ⌝ }
+    ensures { λ r.
+        let list = rangesOf (now («list_starts» .entry)) (now («list_ends» .entry)) in ⌜
+        (r ≡ count + length list)
+        × (firstTagged r (now (starts .exit)) (now (ends .exit)) (now (tags .exit))
+        ≡ firstTagged count (now (starts .entry)) (now (ends .entry)) (now (tags .entry)) ++ allAs reserved list)
         ⌝ }
 {
     let number = reserved_number(reserved);
@@ -95,9 +95,9 @@ fn list_options(
     tags: &mut [u32],
     count: usize,
 ) -> usize
-    requires { ⌜ (count + length (optionsOf builder) ≤ length (now starts))
-        × (count + length (optionsOf builder) ≤ length (now ends))
-        × (count + length (optionsOf builder) ≤ length (now tags)) ⌝ }
+    requires { let more = count + length (optionsOf builder) in ⌜
+        (more ≤ length (now starts)) × (more ≤ length (now ends)) × (more ≤ length (now tags))
+        ⌝ }
     ensures { λ r. ⌜ r ≡ count + length (optionsOf builder) ⌝ }
     ensures { λ r. ⌜
         firstTagged r (now (starts .exit)) (now (ends .exit)) (now (tags .exit))
@@ -152,10 +152,10 @@ pub(crate) fn list_reserved<'a>(
     tags: &mut [u32; MAX_RESERVED_RANGES],
 ) -> usize
     requires { ⌜ reservedCount builder (rangesOf (now «config_starts») (now «config_ends»)) ≤ maxReserved ⌝ }
-    ensures { λ r. ⌜ r ≡ length (reservedOf builder (rangesOf (now («config_starts» .entry)) (now («config_ends» .entry)))) ⌝ }
-    ensures { λ r. ⌜
-        firstTagged r (now (starts .exit)) (now (ends .exit)) (now (tags .exit))
-        ≡ reservedOf builder (rangesOf (now («config_starts» .entry)) (now («config_ends» .entry)))
+    ensures { λ r.
+        let reserved = reservedOf builder (rangesOf (now («config_starts» .entry)) (now («config_ends» .entry))) in ⌜
+        (r ≡ length reserved)
+        × (firstTagged r (now (starts .exit)) (now (ends .exit)) (now (tags .exit)) ≡ reserved)
         ⌝ }
 {
     let state = builder.persisted_state_region.split_at_offset(PAGE_SIZE);

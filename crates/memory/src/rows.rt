@@ -91,11 +91,11 @@ pub(crate) fn check_rows<'a>(
     pool_starts: &'a [u64],
     pool_ends: &'a [u64],
 ) -> Rows
-    ensures { λ r. ⌜
-        r ≡ rowsAs (rowsRefusal builder entries
-        (rangesOf (now («ram_starts» .entry)) (now («ram_ends» .entry)))
-        (rangesOf (now («config_starts» .entry)) (now («config_ends» .entry)))
-        (rangesOf (now («pool_starts» .entry)) (now («pool_ends» .entry))))
+    ensures { λ r.
+        let ram = rangesOf (now («ram_starts» .entry)) (now («ram_ends» .entry)) in
+        let configs = rangesOf (now («config_starts» .entry)) (now («config_ends» .entry)) in
+        let pools = rangesOf (now («pool_starts» .entry)) (now («pool_ends» .entry)) in ⌜
+        r ≡ rowsAs (rowsRefusal builder entries ram configs pools)
         ⌝ }
 {
     if !builder.is_valid() {

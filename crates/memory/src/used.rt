@@ -1,8 +1,7 @@
 // What of the RAM is not free: the used range cut up by the reserved ranges, and the pool ranges.
 ghost use mathlib.Core.Path.{_≡_};
-ghost use mathlib.Core.Bool.{true, false};
+ghost use mathlib.Core.Bool.{true};
 ghost use mathlib.Core.List.{[], _∷_, _++_};
-ghost use mathlib.Core.Option.{none};
 ghost use Prim.Native.Nat.{_+_, _≤_};
 ghost use lib.ListN.{length};
 ghost use Rattle.refusal.specs.Number.{reservedOutsideUsed, poolRanges};
@@ -13,8 +12,7 @@ ghost use Rattle.memory_range.specs.Valid.{allValid};
 ghost use Rattle.address_space.specs.declared.usage.ReservedMemoryType.the-variants.{Vtl2GpaPool};
 ghost use Rattle.memory.specs.Builder.{allAs, reservedCount, singlesValid};
 ghost use Rattle.memory.specs.Rows.{maxReserved};
-ghost use Rattle.memory.specs.Used.{maxUsed, anyOutside, piecesOf, poolsBad, usedOf, usedRefusal, CutUp, RoomFor};
-ghost use Rattle.refusal.specs.Answer.{countedAs};
+ghost use Rattle.memory.specs.Used.{maxUsed, anyOutside, piecesOf, poolsBad, usedOf, usedRefusal, CutUp, ListedIn, RoomFor};
 use crate::builder::AddressSpaceManagerBuilder;
 use crate::reserved::list_reserved;
 use crate::reserved::put_all;
@@ -52,19 +50,10 @@ fn walk_used<'a>(
 ) -> Counted
     requires { ⌜ length (taggedOf (now «reserved_starts») (now «reserved_ends») (now «reserved_tags»)) ≤ maxReserved ⌝
         ∗ ⌜ RoomFor maxUsed (now starts) (now ends) (now tags) ⌝ }
-    ensures { λ r. ⌜
-        r ≡ countedAs
-        (refusedIf (anyOutside (used ∷ []) (rangesIn
-        (taggedOf (now («reserved_starts» .entry)) (now («reserved_ends» .entry)) (now («reserved_tags» .entry))))) reservedOutsideUsed)
-        (length (piecesOf used (taggedOf (now («reserved_starts» .entry)) (now («reserved_ends» .entry)) (now («reserved_tags» .entry)))))
-        ⌝ }
-    ensures { λ _. ⌜
-        (anyOutside (used ∷ []) (rangesIn
-        (taggedOf (now («reserved_starts» .entry)) (now («reserved_ends» .entry)) (now («reserved_tags» .entry)))) ≡ false
-        → firstTagged (length (piecesOf used
-        (taggedOf (now («reserved_starts» .entry)) (now («reserved_ends» .entry)) (now («reserved_tags» .entry)))))
-        (now (starts .exit)) (now (ends .exit)) (now (tags .exit))
-        ≡ piecesOf used (taggedOf (now («reserved_starts» .entry)) (now («reserved_ends» .entry)) (now («reserved_tags» .entry))))
+    ensures { λ r.
+        let reserved = taggedOf (now («reserved_starts» .entry)) (now («reserved_ends» .entry)) (now («reserved_tags» .entry)) in
+        let refusal = refusedIf (anyOutside (used ∷ []) (rangesIn reserved)) reservedOutsideUsed in ⌜
+        ListedIn refusal (piecesOf used reserved) r (now (starts .exit)) (now (ends .exit)) (now (tags .exit))
         ⌝ }
 {
     let reserved = tagged_count(reserved_starts, reserved_ends, reserved_tags);
@@ -122,17 +111,11 @@ fn add_pools<'a>(
         ∗ ⌜ RoomFor maxUsed (now starts) (now ends) (now tags) ⌝
         ∗ ⌜ pieces ≤ maxUsed ⌝
         ∗ ⌜ CutUp used (firstTagged pieces (now starts) (now ends) (now tags)) ⌝ }
-    ensures { λ r. ⌜
-        r ≡ countedAs
-        (refusedIf (poolsBad used pieces (rangesOf (now («pool_starts» .entry)) (now («pool_ends» .entry)))) poolRanges)
-        (pieces + length (rangesOf (now («pool_starts» .entry)) (now («pool_ends» .entry))))
-        ⌝ }
-    ensures { λ _. ⌜
-        (poolsBad used pieces (rangesOf (now («pool_starts» .entry)) (now («pool_ends» .entry))) ≡ false
-        → firstTagged (pieces + length (rangesOf (now («pool_starts» .entry)) (now («pool_ends» .entry))))
-        (now (starts .exit)) (now (ends .exit)) (now (tags .exit))
-        ≡ sortByStart (firstTagged pieces (now (starts .entry)) (now (ends .entry)) (now (tags .entry))
-        ++ allAs Vtl2GpaPool (rangesOf (now («pool_starts» .entry)) (now («pool_ends» .entry)))))
+    ensures { λ r.
+        let pools = rangesOf (now («pool_starts» .entry)) (now («pool_ends» .entry)) in
+        let cut = firstTagged pieces (now (starts .entry)) (now (ends .entry)) (now (tags .entry)) in
+        let refusal = refusedIf (poolsBad used pieces pools) poolRanges in ⌜
+        ListedIn refusal (sortByStart (cut ++ allAs Vtl2GpaPool pools)) r (now (starts .exit)) (now (ends .exit)) (now (tags .exit))
         ⌝ }
 {
     let pools = range_count(pool_starts, pool_ends);
@@ -169,26 +152,16 @@ pub(crate) fn list_used<'a>(
     ends: &mut [u64],
     tags: &mut [u32],
 ) -> Counted
-    requires { ⌜ singlesValid builder ≡ true ⌝
-        ∗ ⌜ allValid (rangesOf (now «config_starts») (now «config_ends»)) ≡ true ⌝
+    requires { let configs = rangesOf (now «config_starts») (now «config_ends») in ⌜ singlesValid builder ≡ true ⌝
+        ∗ ⌜ allValid configs ≡ true ⌝
         ∗ ⌜ allValid (rangesOf (now «pool_starts») (now «pool_ends»)) ≡ true ⌝
-        ∗ ⌜ reservedCount builder (rangesOf (now «config_starts») (now «config_ends»)) ≤ maxReserved ⌝
+        ∗ ⌜ reservedCount builder configs ≤ maxReserved ⌝
         ∗ ⌜ RoomFor maxUsed (now starts) (now ends) (now tags) ⌝ }
-    ensures { λ r. ⌜
-        r ≡ countedAs
-        (usedRefusal builder (rangesOf (now («config_starts» .entry)) (now («config_ends» .entry)))
-        (rangesOf (now («pool_starts» .entry)) (now («pool_ends» .entry))))
-        (length (usedOf builder (rangesOf (now («config_starts» .entry)) (now («config_ends» .entry)))
-        (rangesOf (now («pool_starts» .entry)) (now («pool_ends» .entry)))))
-        ⌝ }
-    ensures { λ _. ⌜
-        (usedRefusal builder (rangesOf (now («config_starts» .entry)) (now («config_ends» .entry)))
-        (rangesOf (now («pool_starts» .entry)) (now («pool_ends» .entry))) ≡ none
-        → firstTagged (length (usedOf builder (rangesOf (now («config_starts» .entry)) (now («config_ends» .entry)))
-        (rangesOf (now («pool_starts» .entry)) (now («pool_ends» .entry)))))
-        (now (starts .exit)) (now (ends .exit)) (now (tags .exit))
-        ≡ usedOf builder (rangesOf (now («config_starts» .entry)) (now («config_ends» .entry)))
-        (rangesOf (now («pool_starts» .entry)) (now («pool_ends» .entry))))
+    ensures { λ r.
+        let configs = rangesOf (now («config_starts» .entry)) (now («config_ends» .entry)) in
+        let pools = rangesOf (now («pool_starts» .entry)) (now («pool_ends» .entry)) in ⌜
+        ListedIn (usedRefusal builder configs pools) (usedOf builder configs pools)
+        r (now (starts .exit)) (now (ends .exit)) (now (tags .exit))
         ⌝ }
 {
     let mut reserved_starts = [0; MAX_RESERVED_RANGES];

@@ -12,7 +12,7 @@ use lib.ListN.{length, take, drop, length-take, drop-of-length-le}
 use lib.Seq.{take-append-seam}
 use Rattle.refusal.specs.Number.{reservedOverlap, reservedOutsideUsed, poolRanges}
 use Rattle.refusal.specs.Rows.{refusedIf, unless}
-use Rattle.refusal.specs.Laws.Rows.{not-refused, downward-last}
+use Rattle.refusal.specs.Laws.Rows.{downward-last}
 use Rattle.memory_range.specs.declared.range.MemoryRange.{MemoryRange}
 use Rattle.memory_range.specs.declared.range.TaggedRange.{TaggedRange}
 use Rattle.memory_range.specs.List.{rangesOf, rangesIn, firstTagged, startsOf, endsOf, tagsOf}
@@ -27,10 +27,10 @@ use Rattle.memory.specs.declared.builder.AddressSpaceManagerBuilder.{Add
 use Rattle.memory.specs.Build.{refused, build, filled, hasPool, initAs, refusedWith}
 use Rattle.memory.specs.Builder.{allAs, reservedOf, singlesValid}
 use Rattle.memory.specs.Rows.{rowsRefusal}
-use Rattle.refusal.specs.Answer.{countedAs}
-use Rattle.memory.specs.Used.{maxPools, maxUsed, anyOverlap, anyOutside, piecesUsed, poolsBad, usedOf, usedRefusal, CutUp}
+use Rattle.refusal.specs.declared.answer.Counted.{Counted}
+use Rattle.memory.specs.Used.{maxPools, maxUsed, anyOverlap, anyOutside, piecesUsed, poolsBad, usedOf, usedRefusal, CutUp, ListedIn}
 use Rattle.memory.specs.Laws.Overlap.{HasByte, both-have, all-have, valid-have, singles-each, holders-as}
-use Rattle.memory.specs.Laws.Overlap.{reserved-has-bytes, reserved-ordered, sorted-overlap, pieces-cut-up, used-length}
+use Rattle.memory.specs.Laws.Overlap.{reserved-has-bytes, reserved-ordered, sorted-overlap, pieces-cut-up}
 use Rattle.memory.specs.Laws.Rows.{rows-passed}
 
 -- the first n places of an array hold a field of ranges, as the sort leaves them
@@ -126,23 +126,17 @@ module _ (b : AddressSpaceManagerBuilder) (configs pools : List MemoryRange) whe
   unfolding usedRefusal
   used-outside h k = rw (h, k)
 
-  -- the last of them, with the answer for the pool ranges, and with what the arrays hold then
+  -- the last of them, with what is answered for the pool ranges and what the arrays hold then
   module _ (h : overlap b configs ≡ false) (k : outsideRow b configs ≡ none) {n : ℕ} (e : length (piecesUsed b configs) ≡ n) where
     used-pools : usedRefusal b configs pools ≡ refusedIf (poolsBad (b .«bootshim_used») n pools) poolRanges
     unfolding usedRefusal
     used-pools = rw (h, k, e) (downward-last (refusedIf (poolsBad (b .«bootshim_used») n pools) poolRanges))
 
-    pub used-counted : countedAs (refusedIf (poolsBad (b .«bootshim_used») n pools) poolRanges) (n + length pools)
-        ≡ countedAs (usedRefusal b configs pools) (length (usedOf b configs pools))
-    used-counted = rw (used-pools, used-length b configs pools, e)
-
-    pub used-found : (ss es ts : List ℕ) {xs : List TaggedRange} → xs ≡ piecesUsed b configs
-        → (poolsBad (b .«bootshim_used») n pools ≡ false → firstTagged (n + length pools) ss es ts ≡ sortByStart (xs ++ allAs Vtl2GpaPool pools))
-        → usedRefusal b configs pools ≡ none → firstTagged (length (usedOf b configs pools)) ss es ts ≡ usedOf b configs pools
+    pub used-listed : {r : Counted} {ss es ts : List ℕ} {xs : List TaggedRange} → xs ≡ piecesUsed b configs
+        → ListedIn (refusedIf (poolsBad (b .«bootshim_used») n pools) poolRanges) (sortByStart (xs ++ allAs Vtl2GpaPool pools)) r ss es ts
+        → ListedIn (usedRefusal b configs pools) (usedOf b configs pools) r ss es ts
     unfolding usedOf
-    used-found ss es ts found put passed =
-        let sorted = rw found at (put (not-refused _ poolRanges (sym used-pools ∙ passed))) in
-        rw (used-length b configs pools, e) sorted
+    used-listed found listed = rw used-pools (rw found at listed)
 
 -- whether there are pool ranges, by their count
 pub has-pool : (pools : List MemoryRange) {n : ℕ} → n ≡ length pools → not (eqb n 0) ≡ hasPool pools

@@ -5,6 +5,7 @@ use mathlib.Core.Path.{_≡_, ap, sym, _∙_}
 use mathlib.Core.Bool.{Bool, true, false}
 use mathlib.Core.List.{List, [], _∷_, _++_, append-assoc, append-nil}
 use native.Mathlib.Numerals.{add-one}
+use mathlib.Core.Option.{Option}
 use native.Mathlib.Omega.{arith}
 use lib.ListN.{length, take, drop, set, length-append, length-set, take-append-drop}
 use lib.Seq.{length-take-le, drop-drop, drop-set-lt, take-suc-set}
@@ -23,14 +24,12 @@ use Rattle.memory_range.specs.Laws.List.{length-first}
 use Rattle.address_space.specs.declared.table.AddressRange.{AddressRange}
 use Rattle.address_space.specs.declared.table.AddressSpaceManager.{AddressSpaceManager}
 use Rattle.address_space.specs.Table.{maxAddressRanges, poolOf}
-use Rattle.refusal.specs.declared.answer.Counted.{Counted}
 use Rattle.refusal.specs.declared.answer.Counted.the-variants.{Count, Refused}
 use Rattle.memory.specs.Build.{tableEntry, tableEntries, tableOf, filled, finishedWith, initAs, refusedWith}
 use Rattle.memory.specs.Rows.{maxRam, maxReserved}
-use Rattle.memory.specs.Used.{maxUsed, isRight, anyRight, anyOutside, usedPiece, usedPieces, piecesOf, RoomFor}
-use Rattle.refusal.specs.Answer.{countedAs}
+use Rattle.memory.specs.Used.{maxUsed, isRight, anyRight, anyOutside, usedPiece, usedPieces, piecesOf, ListedIn, RoomFor}
 use Rattle.memory.specs.Laws.Count.{pieces-count, table-count}
-use Rattle.memory.specs.Laws.Listed.{firstTagged-put}
+use Rattle.memory.specs.Laws.Listed.{firstTagged-put, listed-not, listed-as}
 
 -- as many starts and ends as there are tagged ranges are their ranges
 pub first-ranges : (ss es ts : List ℕ) {n : ℕ} → n ≡ length (taggedOf ss es ts) → rangesOf (take n ss) (take n es) ≡ rangesIn (taggedOf ss es ts)
@@ -41,12 +40,9 @@ pub step-as : {ls rs ls′ rs′ : List MemoryRange} (at : WalkCursor) (step : W
     → walkFrom ls rs at ≡ walkStepped ls rs step → walkFrom ls′ rs′ at ≡ walkStepped ls′ rs′ step
 step-as at step e f h = rw (e, f) at h
 
--- what the walk of the used range answers, and leaves in the arrays
-abbrev pub WalkedUsed : MemoryRange → List TaggedRange → Counted → List ℕ → List ℕ → List ℕ → Type 0
-WalkedUsed used reserved r ss es ts =
-    let outside = anyOutside (used ∷ []) (rangesIn reserved) in
-    let pieces = piecesOf used reserved in
-    (r ≡ countedAs (refusedIf outside reservedOutsideUsed) (length pieces)) × (outside ≡ false → firstTagged (length pieces) ss es ts ≡ pieces)
+-- row 19 of reserved ranges
+abbrev pub walkRefusal : MemoryRange → List TaggedRange → Option ℕ
+walkRefusal used reserved = refusedIf (anyOutside (used ∷ []) (rangesIn reserved)) reservedOutsideUsed
 
 -- the used pieces so far: so many are in the arrays, and the pieces ps of the walk are left
 pub record UsedSoFar (used : MemoryRange) (reserved : List TaggedRange) (ps : List WalkPiece) (count : ℕ) (ss es ts : List ℕ) : Type 0 where
@@ -83,17 +79,17 @@ module _ {used : MemoryRange} {reserved : List TaggedRange} {count : ℕ} {ss es
   -- a piece outside the used range is refused
   pub used-refused : {r : MemoryRange} {x : RangeWalkResult} {ps : List WalkPiece}
       → UsedSoFar used reserved (record { range = r; result = x } ∷ ps) count ss es ts → isRight x ≡ true
-      → WalkedUsed used reserved (Refused reservedOutsideUsed) ss es ts
+      → ListedIn (walkRefusal used reserved) (piecesOf used reserved) (Refused reservedOutsideUsed) ss es ts
   used-refused w n =
       let out : anyOutside (used ∷ []) (rangesIn reserved) ≡ true = rw n at (w .outside) in
-      (rw out, λ no. let z : _≡_ {A = ℕ} 0 1 = cc in absurd (omega arith))
+      listed-not (rw out)
 
   -- no piece is left
-  pub used-done : UsedSoFar used reserved [] count ss es ts → WalkedUsed used reserved (Count count) ss es ts
+  pub used-done : UsedSoFar used reserved [] count ss es ts → ListedIn (walkRefusal used reserved) (piecesOf used reserved) (Count count) ss es ts
   used-done w =
       let all : piecesOf used reserved ≡ firstTagged count ss es ts = rw append-nil at (w .pieces) in
       let n : length (piecesOf used reserved) ≡ count = omega (arith, so-far-length w) in
-      (rw (w .outside, n), λ no. rw n (sym all))
+      listed-as (rw (w .outside)) n (sym all)
 
 -- the table so far: so many entries are in its array, and the pieces ps of the walk are left
 pub record FilledSoFar (manager : AddressSpaceManager) (ram used : List TaggedRange) (ps : List WalkPiece) (count : ℕ)

@@ -159,8 +159,7 @@ module _ (asked : OptionU32) (len : ℕ) (type : AllocationType) (policy : Alloc
         → {n : ℕ} → placed pages type policy alignment below e above ≡ refused n → Breaks n
     found-broken below e above first {n} f =
         let told = full-told _ (afterSplit below e above) f in
-        let count = split-count pages type policy alignment below e above in
-        (
+        let count = split-count pages type policy alignment below e above in (
           row26,
           told .0,
           λ h. absurd (omega (arith, told .1, h below e above first, ap length (first .0))),

@@ -44,13 +44,13 @@ list u = u .before .before .before .before .before
 passed : (u : tie.After-used)
     → let s = entry (list u) in
     (usedRefusal (s .args .builder) (configs s) (pools s) ≡ none) × (length (usedOf (s .args .builder) (configs s) (pools s)) ≡ u .used .given .0 .0)
-passed u = counted-count _ _ (sym (list u .list-used .ensures .0) ∙ u .used .given .1)
+passed u = counted-count _ _ (sym (list u .list-used .ensures .answered) ∙ u .used .given .1)
 
 held : (u : tie.After-used)
     → let s = entry (list u) in
     let m = list u .list-used .last .1 .1 .1 .1 .1 in
     Held (u .used .given .0 .0) (usedOf (s .args .builder) (configs s) (pools s)) (m .0) (m .1 .0) (m .1 .1 .0)
-held u = held-counted (rw (passed u .1) at (list u .list-used .ensures .1 (passed u .0))) (passed u .1)
+held u = held-counted (rw (passed u .1) at (list u .list-used .ensures .found (passed u .0))) (passed u .1)
 
 -- as many as there is room for
 few : (u : tie.After-used) → let s = entry (list u) in length (usedOf (s .args .builder) (configs s) (pools s)) ≤ maxUsed
@@ -69,7 +69,7 @@ returns c =
     let s = entry l in
     let b = s .args .builder in
     let n = length (usedOf b (configs s) (pools s)) in
-    let e = counted-refused (usedRefusal b (configs s) (pools s)) n (sym (l .list-used .ensures .0) ∙ c .before .before .number .given .1) in
+    let e = counted-refused (usedRefusal b (configs s) (pools s)) n (sym (l .list-used .ensures .answered) ∙ c .before .before .number .given .1) in
     c .refused .ensures ∙ build-stopped b (ram s) (configs s) (pools s) (s .args .manager) e
 
 returns-2 : tie.Need-returns-2

@@ -1,7 +1,7 @@
 -- The arrays hold the used pieces, then the pool ranges behind them too, and at the end all of it sorted.
 use Prim.Native.Nat.{_+_, _≤_}
 use mathlib.Core.Path.{_≡_, ap, sym, _∙_}
-use mathlib.Core.Bool.{true≢false, not}
+use mathlib.Core.Bool.{not}
 use mathlib.Core.List.{List, _∷_, _++_}
 use native.Mathlib.Omega.{arith}
 use borrow.Author.Needs.{needs}
@@ -16,7 +16,8 @@ use Rattle.memory_range.specs.Valid.{ascend}
 use Rattle.address_space.specs.declared.usage.ReservedMemoryType.the-variants.{Vtl2GpaPool}
 use Rattle.memory.specs.Builder.{allAs}
 use Rattle.memory.specs.Used.{maxPools, maxUsed, anyOverlap}
-use Rattle.memory.specs.Laws.Build.{Held, held-ranges, held-sorted, pools-ascend, pools-many, pools-beyond, pools-overlap, pools-good}
+use Rattle.memory.specs.Laws.Listed.{listed-not, listed-as}
+use Rattle.memory.specs.Laws.Build.{held-places, Held, held-ranges, held-sorted, pools-ascend, pools-many, pools-beyond, pools-overlap, pools-good}
 use Rattle.memory.proofs.used.add_pools.Statement.{statement}
 use Rattle.memory.proofs.used.add_pools.Tie as tie
 
@@ -53,13 +54,13 @@ returns : tie.Need-returns
 returns c =
     let s = entry (c .before) in
     let e = pools-many (s .args .used) (s .args .pieces) (pools s) (omega arith) in
-    (rw e, λ f. absurd (true≢false (sym e ∙ f)))
+    listed-not (rw e)
 
 returns-2 : tie.Need-returns-2
 returns-2 c =
     let s = entry (c .before .before) in
     let e = pools-beyond (s .args .used) (s .args .pieces) (pools s) (omega arith) in
-    (rw e, λ f. absurd (true≢false (sym e ∙ f)))
+    listed-not (rw e)
 
 -- what the arrays hold once the pool ranges are put, and once all is sorted
 held : (p : tie.After-put-all)
@@ -96,7 +97,7 @@ returns-3 c =
     let s = start (put (sort r)) in
     let overlaps = not-false _ (sym (ascends r) ∙ not-true (r .ranges-ascend .result) (c .if3 .taken)) in
     let e = pools-overlap (s .args .used) (s .args .pieces) (pools s) overlaps in
-    (rw e, λ f. absurd (true≢false (sym e ∙ f)))
+    listed-not (rw e)
 
 returns-4 : tie.Need-returns-4
 returns-4 c =
@@ -106,8 +107,8 @@ returns-4 c =
     let apart = not-true _ (sym (ascends r) ∙ not-false (r .ranges-ascend .result) (c .if3 .left)) in
     let few = few-pools (p .before .before .before .before) in
     let e = pools-good (s .args .used) (s .args .pieces) (pools s) (few .0) (few .1) apart in
-    let n = p .put-all .ensures .0 in
-    (rw (e, n), λ f. rw (← n) (sorted (sort r) .found))
+    let all = sorted (sort r) in
+    listed-as (rw e) (held-places all) (all .found)
 
 pub add-pools-spec : {M : Type 1} → statement M
 add-pools-spec =

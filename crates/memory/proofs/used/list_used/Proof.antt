@@ -3,7 +3,7 @@ use Prim.Native.Nat.{_≤_}
 use mathlib.Core.Path.{_≡_, ap, sym, _∙_}
 use mathlib.Core.Bool.{false, not}
 use mathlib.Core.List.{List, _++_}
-use mathlib.Core.Option.{none, Option·some-ne-none}
+use mathlib.Core.Option.{none}
 use native.Mathlib.Omega.{arith}
 use borrow.Author.Needs.{needs}
 use borrow.Author.Tests.{not-true, not-false}
@@ -20,9 +20,9 @@ use Rattle.memory.specs.Rows.{maxReserved}
 use Rattle.memory.specs.Used.{maxUsed, piecesUsed, RoomFor}
 use Rattle.refusal.specs.Answer.{countedAs}
 use Rattle.refusal.specs.Laws.Answer.{counted-refused, counted-count}
-use Rattle.refusal.specs.Laws.Rows.{not-refused}
 use Rattle.memory.specs.Laws.Build.{Held, held-counted, held-ranges, held-sorted}
-use Rattle.memory.specs.Laws.Build.{overlap, outsideRow, reserved-ascend, used-cut-up, used-overlap, used-outside, used-counted, used-found}
+use Rattle.memory.specs.Laws.Listed.{listed-not}
+use Rattle.memory.specs.Laws.Build.{overlap, outsideRow, reserved-ascend, used-cut-up, used-overlap, used-outside, used-listed}
 use Rattle.memory.specs.Laws.Count.{pieces-count}
 use Rattle.memory.specs.Laws.Reserved.{reserved-few}
 use Rattle.memory.proofs.used.list_used.Statement.{statement}
@@ -96,7 +96,7 @@ ascending w = w .before .before .before .before .before .before .before .before
 walked : (w : tie.After-walk-used)
     → let s = start (ascending w) in
     w .walk-used .result ≡ countedAs (outsideRow (s .args .builder) (configs s)) (length (piecesUsed (s .args .builder) (configs s)))
-walked w = rw (sorted (sort (ascending w .before)) .found) at (w .walk-used .ensures .0)
+walked w = rw (sorted (sort (ascending w .before)) .found) at (w .walk-used .ensures .answered)
 
 room : (w : tie.After-walk-used) → let m = w .walk-used .last .1 .1 .1 .1 in RoomFor maxUsed (m .0) (m .1 .0) (m .1 .1 .0)
 room w =
@@ -117,8 +117,8 @@ pieces-found : (k : tie.After-pieces)
     firstTagged (k .pieces .given .0 .0) (m .0) (m .1 .0) (m .1 .1 .0) ≡ piecesUsed (s .args .builder) (configs s)
 pieces-found k =
     let w = walk k in
-    let put = rw (sorted (sort (ascending w .before)) .found) at (w .walk-used .ensures .1) in
-    rw (passed k .1) at (put (not-refused _ _ (passed k .0)))
+    let put = rw (sorted (sort (ascending w .before)) .found) at (w .walk-used .ensures .found) in
+    rw (passed k .1) at (put (passed k .0))
 
 add-pools-requires : tie.Need-add-pools-requires
 add-pools-requires c κs =
@@ -135,7 +135,7 @@ returns c =
     let s = entry (list (sort r)) in
     let overlaps = not-false _ (sym (ascends r) ∙ not-true (r .ranges-ascend .result) (c .if1 .taken)) in
     let e = used-overlap (s .args .builder) (configs s) (pools s) overlaps in
-    (rw e, λ f. absurd (Option·some-ne-none _ (sym e ∙ f)))
+    listed-not e
 
 returns-2 : tie.Need-returns-2
 returns-2 c =
@@ -143,7 +143,7 @@ returns-2 c =
     let s = start (ascending w) in
     let outside = counted-refused _ _ (sym (walked w) ∙ c .before .number .given .1) in
     let e = used-outside (s .args .builder) (configs s) (pools s) (apart (ascending w)) outside in
-    (rw e, λ f. absurd (Option·some-ne-none _ (sym e ∙ f)))
+    listed-not e
 
 returns-3 : tie.Need-returns-3
 returns-3 c =
@@ -152,11 +152,7 @@ returns-3 c =
     let s = start (ascending (walk k)) in
     let b = s .args .builder in
     let h = apart (ascending (walk k)) in
-    let m = d .add-pools .last .1 .1 in
-    let e = d .add-pools .ensures in (
-      e .0 ∙ used-counted b (configs s) (pools s) h (passed k .0) (passed k .1),
-      used-found b (configs s) (pools s) h (passed k .0) (passed k .1) (m .0) (m .1 .0) (m .1 .1 .0) (pieces-found k) (e .1),
-    )
+    used-listed b (configs s) (pools s) h (passed k .0) (passed k .1) (pieces-found k) (d .add-pools .ensures)
 
 pub list-used-spec : {M : Type 1} → statement M
 list-used-spec =
