@@ -18,9 +18,9 @@ impl AddressSpaceManager {
         allocation_type: AllocationType,
         allocation_policy: AllocationPolicy,
     ) -> Allocated
-        ensures { λ r. ⌜
-            (r ≡ requestedOn (now (self .entry)) «required_vnode» len «allocation_type» «allocation_policy» optionU64.None .answer)
-            × (now (self .exit) ≡ requestedOn (now (self .entry)) «required_vnode» len «allocation_type» «allocation_policy» optionU64.None .manager)
+        ensures { λ r.
+            let allocation = requestedOn (now (self .entry)) «required_vnode» len «allocation_type» «allocation_policy» optionU64.None in ⌜
+            (r ≡ allocation .answer) × (now (self .exit) ≡ allocation .manager)
             ⌝ }
     {
         let table = *self;
@@ -39,9 +39,9 @@ impl AddressSpaceManager {
         allocation_policy: AllocationPolicy,
         alignment: u64,
     ) -> Allocated
-        ensures { λ r. ⌜
-            (r ≡ requestedOn (now (self .entry)) «required_vnode» len «allocation_type» «allocation_policy» (optionU64.Some alignment) .answer)
-            × (now (self .exit) ≡ requestedOn (now (self .entry)) «required_vnode» len «allocation_type» «allocation_policy» (optionU64.Some alignment) .manager)
+        ensures { λ r.
+            let aligned = requestedOn (now (self .entry)) «required_vnode» len «allocation_type» «allocation_policy» (optionU64.Some alignment) in ⌜
+            (r ≡ aligned .answer) × (now (self .exit) ≡ aligned .manager)
             ⌝ }
     {
         let table = *self;

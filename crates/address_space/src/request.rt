@@ -103,10 +103,10 @@ fn allocate_range(
     alignment: OptionU64,
 ) -> Allocation
     requires { ⌜ at < length (entriesOf manager) ⌝ }
-    ensures { λ r. ⌜
+    ensures { λ r.
+        let es = entriesOf manager in ⌜
         r ≡ allocationAs manager «allocation_type»
-        (placed len «allocation_type» «allocation_policy» alignment
-        (take at (entriesOf manager)) (getD (entriesOf manager) at noEntry) (drop (at + 1) (entriesOf manager)))
+        (placed len «allocation_type» «allocation_policy» alignment (take at es) (getD es at noEntry) (drop (at + 1) es))
         ⌝ }
 {
     let entry = manager.address_space[at];
