@@ -113,9 +113,13 @@ pub(crate) fn answer_gets(
     output: &mut [u8],
     at: usize,
 ) -> Answered
-    requires { ⌜ Room (length (getLines (getsFirst (recordsAt (now text) from)) (entriesOf manager))) at (now output) ⌝ }
-    ensures { λ r. ⌜ Wrote (getLines (getsFirst (recordsAt (now (text .entry)) from)) (entriesOf manager)) at (now (output .entry)) (now (output .exit)) (r .next) ⌝
-        ∗ ⌜ entriesOf (r .manager) ≡ afterGets (getsFirst (recordsAt (now (text .entry)) from)) (entriesOf manager) ⌝ }
+    requires { let requests = getsFirst (recordsAt (now text) from) in
+        ⌜ Room (length (getLines requests (entriesOf manager))) at (now output) ⌝ }
+    ensures { λ r.
+        let requests = getsFirst (recordsAt (now (text .entry)) from) in ⌜
+        Wrote (getLines requests (entriesOf manager)) at (now (output .entry)) (now (output .exit)) (r .next)
+        × (entriesOf (r .manager) ≡ afterGets requests (entriesOf manager))
+        ⌝ }
 {
     let mut manager = manager;
     let mut next = at;

@@ -86,9 +86,15 @@ fn write_plan(
     pool_count: usize,
     output: &mut [u8],
 ) -> usize
-    requires { ⌜ («ram_count» ≤ 64) × («pool_count» ≤ maxPoolRanges) ⌝
-        ∗ ⌜ Room (length (planLines (firstTagged «ram_count» (ram .starts) (ram .ends) (ram .nodes)) (take «pool_count» (pool .ranges)) (getsFirst (recordsAt (now text) gets)) (entriesOf (pool .manager)))) 0 (now output) ⌝ }
-    ensures { λ r. ⌜ Wrote (planLines (firstTagged «ram_count» (ram .starts) (ram .ends) (ram .nodes)) (take «pool_count» (pool .ranges)) (getsFirst (recordsAt (now (text .entry)) gets)) (entriesOf (pool .manager))) 0 (now (output .entry)) (now (output .exit)) r ⌝ }
+    requires { let chosen = firstTagged «ram_count» (ram .starts) (ram .ends) (ram .nodes) in
+        let requests = getsFirst (recordsAt (now text) gets) in
+        let lines = planLines chosen (take «pool_count» (pool .ranges)) requests (entriesOf (pool .manager)) in
+        ⌜ («ram_count» ≤ 64) × («pool_count» ≤ maxPoolRanges) × Room (length lines) 0 (now output) ⌝ }
+    ensures { λ r.
+        let chosen = firstTagged «ram_count» (ram .starts) (ram .ends) (ram .nodes) in
+        let requests = getsFirst (recordsAt (now (text .entry)) gets) in
+        let lines = planLines chosen (take «pool_count» (pool .ranges)) requests (entriesOf (pool .manager)) in
+        ⌜ Wrote lines 0 (now (output .entry)) (now (output .exit)) r ⌝ }
 {
     let ranges = pool.ranges;
     let table = pool.manager;
@@ -110,9 +116,13 @@ fn plan_table(
     table: AddressSpaceManager,
     output: &mut [u8],
 ) -> Planned
-    requires { ⌜ outputSizeFor (length (now text)) ≤ length (now output) ⌝
-        ∗ ⌜ («ram_count» ≤ 64) × («ram_bytes» ≡ bytesOf (firstTagged «ram_count» (ram .starts) (ram .ends) (ram .nodes))) ⌝
-        ∗ ⌜ planOf (now text) ≡ afterBuild isolation (pool .pool) (firstTagged «ram_count» (ram .starts) (ram .ends) (ram .nodes)) (getsFirst (recordsAt (now text) (pool .next))) (built (entriesOf table)) ⌝ }
+    requires { let chosen = firstTagged «ram_count» (ram .starts) (ram .ends) (ram .nodes) in
+        let requests = getsFirst (recordsAt (now text) (pool .next)) in ⌜
+        (outputSizeFor (length (now text)) ≤ length (now output))
+        × («ram_count» ≤ 64)
+        × («ram_bytes» ≡ bytesOf chosen)
+        × (planOf (now text) ≡ afterBuild isolation (pool .pool) chosen requests (built (entriesOf table)))
+        ⌝ }
     ensures { λ r. ⌜ Answers (planOf (now (text .entry))) (now (output .entry)) (now (output .exit)) r ⌝ }
 {
     let record = pool.pool;
@@ -145,9 +155,12 @@ fn plan_ram<'a>(
     pool_ends: &'a [u64],
     output: &mut [u8],
 ) -> Planned
-    requires { ⌜ outputSizeFor (length (now text)) ≤ length (now output) ⌝
-        ∗ ⌜ Selected (now text) isolation (pool .pool) builder (getsFirst (recordsAt (now text) (pool .next)))
-        (rangesOf (now «config_starts») (now «config_ends»)) (rangesOf (now «pool_starts») (now «pool_ends»)) ram ⌝ }
+    requires { let requests = getsFirst (recordsAt (now text) (pool .next)) in
+        let configs = rangesOf (now «config_starts») (now «config_ends») in
+        let pools = rangesOf (now «pool_starts») (now «pool_ends») in ⌜
+        (outputSizeFor (length (now text)) ≤ length (now output))
+        × Selected (now text) isolation (pool .pool) builder requests configs pools ram
+        ⌝ }
     ensures { λ r. ⌜ Answers (planOf (now (text .entry))) (now (output .entry)) (now (output .exit)) r ⌝ }
 {
     let selection = ram.selection;
@@ -196,11 +209,11 @@ fn select_ram<'a>(
     import_starts: &'a [u64],
     import_ends: &'a [u64],
 ) -> Vtl2Ram
-    ensures { λ r. ⌜
-        r ≡ ramAs (choice (read .shape .mode) (read .shape .isolation) (read .shape .«memory_size») (read .file)
-        (mapOf (now («map_starts» .entry)) (now («map_ends» .entry)) (now («map_nodes» .entry)) (now («map_protectable» .entry)))
-        (rangesOf (now («import_starts» .entry)) (now («import_ends» .entry))))
-        ⌝ }
+    ensures { λ r.
+        let shape = read .shape in
+        let map = mapOf (now («map_starts» .entry)) (now («map_ends» .entry)) (now («map_nodes» .entry)) (now («map_protectable» .entry)) in
+        let imports = rangesOf (now («import_starts» .entry)) (now («import_ends» .entry)) in
+        ⌜ r ≡ ramAs (choice (shape .mode) (shape .isolation) (shape .«memory_size») (read .file) map imports) ⌝ }
 {
     let shape = read.shape;
     let mode = shape.mode;
@@ -238,9 +251,13 @@ fn plan_accepted<'a>(
     pool_ends: &'a [u64],
     output: &mut [u8],
 ) -> Planned
-    requires { ⌜ outputSizeFor (length (now text)) ≤ length (now output) ⌝
-        ∗ ⌜ TextRead (now text) read build pool (mapOf (now «map_starts») (now «map_ends») (now «map_nodes») (now «map_protectable»))
-        (rangesOf (now «import_starts») (now «import_ends»)) (rangesOf (now «config_starts») (now «config_ends»)) (rangesOf (now «pool_starts») (now «pool_ends»)) ⌝ }
+    requires { let map = mapOf (now «map_starts») (now «map_ends») (now «map_nodes») (now «map_protectable») in
+        let imports = rangesOf (now «import_starts») (now «import_ends») in
+        let configs = rangesOf (now «config_starts») (now «config_ends») in
+        let pools = rangesOf (now «pool_starts») (now «pool_ends») in ⌜
+        (outputSizeFor (length (now text)) ≤ length (now output))
+        × TextRead (now text) read build pool map imports configs pools
+        ⌝ }
     ensures { λ r. ⌜ Answers (planOf (now (text .entry))) (now (output .entry)) (now (output .exit)) r ⌝ }
 {
     if !(read.valid & build.valid) {
@@ -288,11 +305,13 @@ fn plan_read<'a>(
     import_ends: &'a [u64],
     output: &mut [u8],
 ) -> Planned
-    requires { ⌜ outputSizeFor (length (now text)) ≤ length (now output) ⌝
-        ∗ ⌜ length (now text) ≤ textSize ⌝
-        ∗ ⌜ SelectionHeld (now text) (selectionIn (recordsAt (now text) 0)) read ⌝
-        ∗ ⌜ mapOf (now «map_starts») (now «map_ends») (now «map_nodes») (now «map_protectable») ≡ take mapRoom (selectionIn (recordsAt (now text) 0) .map) ⌝
-        ∗ ⌜ rangesOf (now «import_starts») (now «import_ends») ≡ take importRoom (selectionIn (recordsAt (now text) 0) .imports) ⌝ }
+    requires { let given = selectionIn (recordsAt (now text) 0) in ⌜
+        (outputSizeFor (length (now text)) ≤ length (now output))
+        × (length (now text) ≤ textSize)
+        × SelectionHeld (now text) given read
+        × (mapOf (now «map_starts») (now «map_ends») (now «map_nodes») (now «map_protectable») ≡ take mapRoom (given .map))
+        × (rangesOf (now «import_starts») (now «import_ends») ≡ take importRoom (given .imports))
+        ⌝ }
     ensures { λ r. ⌜ Answers (planOf (now (text .entry))) (now (output .entry)) (now (output .exit)) r ⌝ }
 {
     let mut config_starts = [0; CONFIG_ROOM];

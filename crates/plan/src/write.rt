@@ -23,7 +23,9 @@ pub(crate) fn write_ram_lines<'a>(
 ) -> usize
     requires { ⌜ (count ≤ length (now starts)) × (count ≤ length (now ends)) × (count ≤ length (now nodes)) ⌝
         ∗ ⌜ Room count at (now output) ⌝ }
-    ensures { λ r. ⌜ Wrote (ramLines (firstTagged count (now (starts .entry)) (now (ends .entry)) (now (nodes .entry)))) at (now (output .entry)) (now (output .exit)) r ⌝ }
+    ensures { λ r.
+        let ram = firstTagged count (now (starts .entry)) (now (ends .entry)) (now (nodes .entry)) in
+        ⌜ Wrote (ramLines ram) at (now (output .entry)) (now (output .exit)) r ⌝ }
 {
     let mut next = at;
     let mut i = 0;

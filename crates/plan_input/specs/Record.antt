@@ -1,11 +1,13 @@
 -- The records from a place of a text on (docs/SPEC.md, section 28).
 use Prim.Native.Nat.{ℕ}
+use mathlib.Core.Path.{_≡_}
 use mathlib.Core.List.{List, [], _∷_}
 use mathlib.Core.Option.{Option, none, some}
 use lib.ListN.{drop}
 use Rattle.plan_fields.specs.Cut.{newline, splitOn}
 use Rattle.plan_record.specs.declared.record.Record.{Record}
 use Rattle.plan_record.specs.Record.{lineOf}
+use Rattle.plan_text.specs.Text.{checkFrom, recordsFrom}
 
 -- a line's record in front of those behind it; a line that breaks its form has none, and ends them
 abbrev pub inFront : Option Record → List Record → List Record
@@ -26,3 +28,7 @@ recordsAt text at = recordsIn (splitOn newline (drop at text))
 abbrev pub behindOne : List Record → List Record
 behindOne [] = []
 behindOne (r ∷ rs) = rs
+
+-- the text's check from place `next` on, at order `later`, answers as from place `at` on, at order `order`
+abbrev pub SameCheck : List ℕ → ℕ → ℕ → ℕ → ℕ → Type 0
+SameCheck text order at later next = checkFrom later (recordsFrom next text) ≡ checkFrom order (recordsFrom at text)

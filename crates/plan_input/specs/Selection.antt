@@ -10,9 +10,8 @@ use Rattle.host_params.specs.declared.MemoryEntry.{MemoryEntry}
 use Rattle.host_map.specs.Map.{mapRanges}
 use Rattle.plan_record.specs.declared.record.Record.{Record}
 use Rattle.plan_record.specs.declared.record.Shape.{Shape}
-use Rattle.plan_text.specs.Text.{checkFrom, recordsFrom}
 use Rattle.plan_input.specs.declared.selection.SelectionRead.{SelectionRead}
-use Rattle.plan_input.specs.Record.{recordsAt, behindOne}
+use Rattle.plan_input.specs.Record.{recordsAt, behindOne, SameCheck}
 use Rattle.plan_input.specs.Word.{behindWord, behindWords}
 use Rattle.plan_input.specs.Range.{rangeFirst, rangesFirst, orEmpty}
 use Rattle.plan_input.specs.Entry.{entriesFirst}
@@ -49,4 +48,4 @@ pub record SelectionHeld (text : List ℕ) (s : SelectionIn) (r : SelectionRead)
   pub valid : r .valid ≡ (validRange (s .file) && (allValid (mapRanges (s .map)) && allValid (s .imports)))
   pub ascending : r .ascending ≡ (ascend (mapRanges (s .map)) && ascend (s .imports))
   pub next : recordsAt text (r .next) ≡ s .rest
-  pub order : checkFrom (r .order) (recordsFrom (r .next) text) ≡ checkFrom 0 (recordsFrom 0 text)
+  pub order : SameCheck text 0 0 (r .order) (r .next)

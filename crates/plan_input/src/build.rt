@@ -1,8 +1,7 @@
 // What the build is given.
 ghost use mathlib.Core.Path.{_≡_};
 ghost use lib.Seq.{sets};
-ghost use Rattle.plan_text.specs.Text.{checkFrom, recordsFrom};
-ghost use Rattle.plan_input.specs.Record.{recordsAt};
+ghost use Rattle.plan_input.specs.Record.{recordsAt, SameCheck};
 ghost use Rattle.plan_input.specs.Range.{startsIn, endsIn};
 ghost use Rattle.plan_input.specs.Build.{builderOf, buildIn, BuildHeld};
 use crate::list::read_ranges;
@@ -71,12 +70,16 @@ pub fn read_build(
     pool_starts: &mut [u64; POOL_ROOM],
     pool_ends: &mut [u64; POOL_ROOM],
 ) -> BuildRead
-    ensures { λ r. ⌜ BuildHeld (now (text .entry)) (buildIn (recordsAt (now (text .entry)) at)) r ⌝
-        ∗ ⌜ checkFrom (r .order) (recordsFrom (r .next) (now (text .entry))) ≡ checkFrom order (recordsFrom at (now (text .entry))) ⌝ }
-    ensures { λ _. ⌜ now («config_starts» .exit) ≡ sets (now («config_starts» .entry)) 0 (startsIn (buildIn (recordsAt (now (text .entry)) at) .configs)) ⌝ }
-    ensures { λ _. ⌜ now («config_ends» .exit) ≡ sets (now («config_ends» .entry)) 0 (endsIn (buildIn (recordsAt (now (text .entry)) at) .configs)) ⌝ }
-    ensures { λ _. ⌜ now («pool_starts» .exit) ≡ sets (now («pool_starts» .entry)) 0 (startsIn (buildIn (recordsAt (now (text .entry)) at) .pools)) ⌝ }
-    ensures { λ _. ⌜ now («pool_ends» .exit) ≡ sets (now («pool_ends» .entry)) 0 (endsIn (buildIn (recordsAt (now (text .entry)) at) .pools)) ⌝ }
+    ensures { λ r.
+        let bytes = now (text .entry) in
+        let given = buildIn (recordsAt bytes at) in ⌜
+        BuildHeld bytes given r
+        × SameCheck bytes order at (r .order) (r .next)
+        × (now («config_starts» .exit) ≡ sets (now («config_starts» .entry)) 0 (startsIn (given .configs)))
+        × (now («config_ends» .exit) ≡ sets (now («config_ends» .entry)) 0 (endsIn (given .configs)))
+        × (now («pool_starts» .exit) ≡ sets (now («pool_starts» .entry)) 0 (startsIn (given .pools)))
+        × (now («pool_ends» .exit) ≡ sets (now («pool_ends» .entry)) 0 (endsIn (given .pools)))
+        ⌝ }
 {
     let used = read_range(text, at, order, USED);
     let state = read_range(text, used.next, used.order, STATE);

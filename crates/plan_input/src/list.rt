@@ -4,8 +4,7 @@ ghost use mathlib.Core.Path.{_≡_};
 ghost use lib.ListN.{length};
 ghost use lib.Seq.{sets};
 ghost use Rattle.host_map.specs.Map.{mapRanges, mapStarts, mapEnds, mapNodes, mapProtectable};
-ghost use Rattle.plan_text.specs.Text.{checkFrom, recordsFrom};
-ghost use Rattle.plan_input.specs.Record.{recordsAt};
+ghost use Rattle.plan_input.specs.Record.{recordsAt, SameCheck};
 ghost use Rattle.plan_input.specs.Word.{behindWords};
 ghost use Rattle.plan_input.specs.Range.{rangesFirst, startsIn, endsIn};
 ghost use Rattle.plan_input.specs.Entry.{entriesFirst};
@@ -35,12 +34,17 @@ pub(crate) fn read_ranges(
     starts: &mut [u64],
     ends: &mut [u64],
 ) -> ListRead
-    ensures { λ r. ⌜ r .count ≡ length (rangesFirst place (recordsAt (now (text .entry)) at)) ⌝
-        ∗ ⌜ r .check ≡ checkedAll checkStart (rangesFirst place (recordsAt (now (text .entry)) at)) ⌝
-        ∗ ⌜ recordsAt (now (text .entry)) (r .next) ≡ behindWords place (recordsAt (now (text .entry)) at) ⌝
-        ∗ ⌜ checkFrom (r .order) (recordsFrom (r .next) (now (text .entry))) ≡ checkFrom order (recordsFrom at (now (text .entry))) ⌝ }
-    ensures { λ _. ⌜ now (starts .exit) ≡ sets (now (starts .entry)) 0 (startsIn (rangesFirst place (recordsAt (now (text .entry)) at))) ⌝ }
-    ensures { λ _. ⌜ now (ends .exit) ≡ sets (now (ends .entry)) 0 (endsIn (rangesFirst place (recordsAt (now (text .entry)) at))) ⌝ }
+    ensures { λ r.
+        let bytes = now (text .entry) in
+        let records = recordsAt bytes at in
+        let ranges = rangesFirst place records in ⌜
+        (r .count ≡ length ranges)
+        × (r .check ≡ checkedAll checkStart ranges)
+        × (recordsAt bytes (r .next) ≡ behindWords place records)
+        × SameCheck bytes order at (r .order) (r .next)
+        × (now (starts .exit) ≡ sets (now (starts .entry)) 0 (startsIn ranges))
+        × (now (ends .exit) ≡ sets (now (ends .entry)) 0 (endsIn ranges))
+        ⌝ }
 {
     let mut count = 0;
     let mut check = RangeCheck::start();
@@ -81,14 +85,19 @@ pub(crate) fn read_map(
     nodes: &mut [u32],
     protectable: &mut [bool],
 ) -> ListRead
-    ensures { λ r. ⌜ r .count ≡ length (entriesFirst (recordsAt (now (text .entry)) at)) ⌝
-        ∗ ⌜ r .check ≡ checkedAll checkStart (mapRanges (entriesFirst (recordsAt (now (text .entry)) at))) ⌝
-        ∗ ⌜ recordsAt (now (text .entry)) (r .next) ≡ behindWords 2 (recordsAt (now (text .entry)) at) ⌝
-        ∗ ⌜ checkFrom (r .order) (recordsFrom (r .next) (now (text .entry))) ≡ checkFrom order (recordsFrom at (now (text .entry))) ⌝ }
-    ensures { λ _. ⌜ now (starts .exit) ≡ sets (now (starts .entry)) 0 (mapStarts (entriesFirst (recordsAt (now (text .entry)) at))) ⌝ }
-    ensures { λ _. ⌜ now (ends .exit) ≡ sets (now (ends .entry)) 0 (mapEnds (entriesFirst (recordsAt (now (text .entry)) at))) ⌝ }
-    ensures { λ _. ⌜ now (nodes .exit) ≡ sets (now (nodes .entry)) 0 (mapNodes (entriesFirst (recordsAt (now (text .entry)) at))) ⌝ }
-    ensures { λ _. ⌜ now (protectable .exit) ≡ sets (now (protectable .entry)) 0 (mapProtectable (entriesFirst (recordsAt (now (text .entry)) at))) ⌝ }
+    ensures { λ r.
+        let bytes = now (text .entry) in
+        let records = recordsAt bytes at in
+        let map = entriesFirst records in ⌜
+        (r .count ≡ length map)
+        × (r .check ≡ checkedAll checkStart (mapRanges map))
+        × (recordsAt bytes (r .next) ≡ behindWords 2 records)
+        × SameCheck bytes order at (r .order) (r .next)
+        × (now (starts .exit) ≡ sets (now (starts .entry)) 0 (mapStarts map))
+        × (now (ends .exit) ≡ sets (now (ends .entry)) 0 (mapEnds map))
+        × (now (nodes .exit) ≡ sets (now (nodes .entry)) 0 (mapNodes map))
+        × (now (protectable .exit) ≡ sets (now (protectable .entry)) 0 (mapProtectable map))
+        ⌝ }
 {
     let mut count = 0;
     let mut check = RangeCheck::start();

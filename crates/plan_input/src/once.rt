@@ -1,8 +1,7 @@
 // The two records that hold neither a range nor an entry of the map, and stand once.
 ghost use mathlib.Core.Path.{_≡_};
 ghost use Rattle.plan_text.specs.Plan.{heldBy, shapeHeld, poolHeld};
-ghost use Rattle.plan_text.specs.Text.{checkFrom, recordsFrom};
-ghost use Rattle.plan_input.specs.Record.{recordsAt, behindOne};
+ghost use Rattle.plan_input.specs.Record.{recordsAt, behindOne, SameCheck};
 ghost use Rattle.plan_input.specs.Once.{firstOr, noShape, noPool, shapeFirst, poolFirst};
 use host_params::IsolationType;
 use host_params::MemoryAllocationMode;
@@ -47,9 +46,13 @@ fn no_shape() -> Shape
 }
 
 pub(crate) fn read_shape(text: &[u8], at: usize, order: u8) -> ShapeRead
-    ensures { λ r. ⌜ r .shape ≡ shapeFirst (recordsAt (now (text .entry)) at) ⌝
-        ∗ ⌜ recordsAt (now (text .entry)) (r .next) ≡ behindOne (recordsAt (now (text .entry)) at) ⌝
-        ∗ ⌜ checkFrom (r .order) (recordsFrom (r .next) (now (text .entry))) ≡ checkFrom order (recordsFrom at (now (text .entry))) ⌝ }
+    ensures { λ r.
+        let bytes = now (text .entry) in
+        let records = recordsAt bytes at in ⌜
+        (r .shape ≡ shapeFirst records)
+        × (recordsAt bytes (r .next) ≡ behindOne records)
+        × SameCheck bytes order at (r .order) (r .next)
+        ⌝ }
 {
     match next_record(text, at) {
         RecordStep::Record(record, next) => ShapeRead {
@@ -87,9 +90,13 @@ fn pool_in(record: Record) -> Pool
 
 // The pool record at a place of the text.
 pub fn read_pool(text: &[u8], at: usize, order: u8) -> PoolRead
-    ensures { λ r. ⌜ r .pool ≡ poolFirst (recordsAt (now (text .entry)) at) ⌝
-        ∗ ⌜ recordsAt (now (text .entry)) (r .next) ≡ behindOne (recordsAt (now (text .entry)) at) ⌝
-        ∗ ⌜ checkFrom (r .order) (recordsFrom (r .next) (now (text .entry))) ≡ checkFrom order (recordsFrom at (now (text .entry))) ⌝ }
+    ensures { λ r.
+        let bytes = now (text .entry) in
+        let records = recordsAt bytes at in ⌜
+        (r .pool ≡ poolFirst records)
+        × (recordsAt bytes (r .next) ≡ behindOne records)
+        × SameCheck bytes order at (r .order) (r .next)
+        ⌝ }
 {
     match next_record(text, at) {
         RecordStep::Record(record, next) => PoolRead {

@@ -1,8 +1,7 @@
 // A record that holds a range and nothing else.
 ghost use mathlib.Core.Path.{_≡_};
 ghost use Rattle.memory_range.specs.Range.{range};
-ghost use Rattle.plan_text.specs.Text.{checkFrom, recordsFrom};
-ghost use Rattle.plan_input.specs.Record.{recordsAt};
+ghost use Rattle.plan_input.specs.Record.{recordsAt, SameCheck};
 ghost use Rattle.plan_input.specs.Word.{behindWord};
 ghost use Rattle.plan_input.specs.Range.{rangeIn, rangeOf, rangeFirst, orEmpty};
 use crate::word::OptionRecord;
@@ -79,9 +78,13 @@ fn range_of(record: OptionRecord) -> OptionRange
 
 // The range of the record at a place of the text, if it is one of that word.
 pub(crate) fn read_range(text: &[u8], at: usize, order: u8, place: u8) -> RangeRead
-    ensures { λ r. ⌜ r .range ≡ rangeFirst place (recordsAt (now (text .entry)) at) ⌝
-        ∗ ⌜ recordsAt (now (text .entry)) (r .next) ≡ behindWord place (recordsAt (now (text .entry)) at) ⌝
-        ∗ ⌜ checkFrom (r .order) (recordsFrom (r .next) (now (text .entry))) ≡ checkFrom order (recordsFrom at (now (text .entry))) ⌝ }
+    ensures { λ r.
+        let bytes = now (text .entry) in
+        let records = recordsAt bytes at in ⌜
+        (r .range ≡ rangeFirst place records)
+        × (recordsAt bytes (r .next) ≡ behindWord place records)
+        × SameCheck bytes order at (r .order) (r .next)
+        ⌝ }
 {
     let read = read_word(text, at, order, place);
     let record = read.record;

@@ -42,13 +42,17 @@ pub fn read_selection(
     import_starts: &mut [u64; IMPORT_ROOM],
     import_ends: &mut [u64; IMPORT_ROOM],
 ) -> SelectionRead
-    ensures { λ r. ⌜ SelectionHeld (now (text .entry)) (selectionIn (recordsAt (now (text .entry)) 0)) r ⌝ }
-    ensures { λ _. ⌜ now («map_starts» .exit) ≡ sets (now («map_starts» .entry)) 0 (mapStarts (selectionIn (recordsAt (now (text .entry)) 0) .map)) ⌝ }
-    ensures { λ _. ⌜ now («map_ends» .exit) ≡ sets (now («map_ends» .entry)) 0 (mapEnds (selectionIn (recordsAt (now (text .entry)) 0) .map)) ⌝ }
-    ensures { λ _. ⌜ now («map_nodes» .exit) ≡ sets (now («map_nodes» .entry)) 0 (mapNodes (selectionIn (recordsAt (now (text .entry)) 0) .map)) ⌝ }
-    ensures { λ _. ⌜ now («map_protectable» .exit) ≡ sets (now («map_protectable» .entry)) 0 (mapProtectable (selectionIn (recordsAt (now (text .entry)) 0) .map)) ⌝ }
-    ensures { λ _. ⌜ now («import_starts» .exit) ≡ sets (now («import_starts» .entry)) 0 (startsIn (selectionIn (recordsAt (now (text .entry)) 0) .imports)) ⌝ }
-    ensures { λ _. ⌜ now («import_ends» .exit) ≡ sets (now («import_ends» .entry)) 0 (endsIn (selectionIn (recordsAt (now (text .entry)) 0) .imports)) ⌝ }
+    ensures { λ r.
+        let bytes = now (text .entry) in
+        let given = selectionIn (recordsAt bytes 0) in ⌜
+        SelectionHeld bytes given r
+        × (now («map_starts» .exit) ≡ sets (now («map_starts» .entry)) 0 (mapStarts (given .map)))
+        × (now («map_ends» .exit) ≡ sets (now («map_ends» .entry)) 0 (mapEnds (given .map)))
+        × (now («map_nodes» .exit) ≡ sets (now («map_nodes» .entry)) 0 (mapNodes (given .map)))
+        × (now («map_protectable» .exit) ≡ sets (now («map_protectable» .entry)) 0 (mapProtectable (given .map)))
+        × (now («import_starts» .exit) ≡ sets (now («import_starts» .entry)) 0 (startsIn (given .imports)))
+        × (now («import_ends» .exit) ≡ sets (now («import_ends» .entry)) 0 (endsIn (given .imports)))
+        ⌝ }
 {
     let first = read_shape(text, 0, 0);
     let second = read_range(text, first.next, first.order, FILE);

@@ -1,8 +1,7 @@
 // One record of the text, if it is of the word that is read: the one step that single records and lists
 // are read by.
 ghost use mathlib.Core.Path.{_≡_};
-ghost use Rattle.plan_text.specs.Text.{checkFrom, recordsFrom};
-ghost use Rattle.plan_input.specs.Record.{recordsAt};
+ghost use Rattle.plan_input.specs.Record.{recordsAt, SameCheck};
 ghost use Rattle.plan_input.specs.Word.{wordFirst, behindWord};
 ghost use Rattle.plan_input.specs.declared.word.OptionRecord.the-variants.{None};
 use plan_record::Record;
@@ -37,9 +36,13 @@ fn none_at(at: usize, order: u8) -> WordRead
 // The record at a place of the text, if its word has the given place among the fourteen words. The text's
 // check answers the same from behind it.
 pub(crate) fn read_word(text: &[u8], at: usize, order: u8, place: u8) -> WordRead
-    ensures { λ r. ⌜ r .«record» ≡ wordFirst place (recordsAt (now (text .entry)) at) ⌝
-        ∗ ⌜ recordsAt (now (text .entry)) (r .next) ≡ behindWord place (recordsAt (now (text .entry)) at) ⌝
-        ∗ ⌜ checkFrom (r .order) (recordsFrom (r .next) (now (text .entry))) ≡ checkFrom order (recordsFrom at (now (text .entry))) ⌝ }
+    ensures { λ r.
+        let bytes = now (text .entry) in
+        let records = recordsAt bytes at in ⌜
+        (r .«record» ≡ wordFirst place records)
+        × (recordsAt bytes (r .next) ≡ behindWord place records)
+        × SameCheck bytes order at (r .order) (r .next)
+        ⌝ }
 {
     let RecordStep::Record(record, next) = next_record(text, at) else {
         return none_at(at, order);

@@ -19,10 +19,11 @@ pub(crate) fn table_nodes(
     numa_nodes: &mut [u32; MAX_POOL_RANGES],
 ) -> usize
     requires { ⌜ length (now «numa_nodes») ≡ maxPoolRanges ⌝ }
-    ensures { λ r. ⌜ (r ≡ length (tableNodes (entriesOf manager))) × (r ≤ maxPoolRanges) ⌝ }
-    ensures { λ r. ⌜
-        now («numa_nodes» .exit)
-        ≡ tableNodes (entriesOf manager) ++ drop (length (tableNodes (entriesOf manager))) (now («numa_nodes» .entry))
+    ensures { λ r.
+        let nodes = tableNodes (entriesOf manager) in ⌜
+        (r ≡ length nodes)
+        × (r ≤ maxPoolRanges)
+        × (now («numa_nodes» .exit) ≡ nodes ++ drop (length nodes) (now («numa_nodes» .entry)))
         ⌝ }
 {
     let entries = manager.len();

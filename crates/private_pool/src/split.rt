@@ -39,9 +39,9 @@ fn place_pieces(
     count: usize,
 ) -> PrivatePool
     requires { ⌜ (0 < count) × (count ≤ maxPoolRanges) × (length (now «numa_nodes») ≡ maxPoolRanges) × (pages < pagesBound) ⌝ }
-    ensures { λ r. ⌜
-        r ≡ poolAs manager (placePieces (splitPieces pages (take count (now («numa_nodes» .entry)))) (entriesOf manager))
-        ⌝ }
+    ensures { λ r.
+        let pieces = splitPieces pages (take count (now («numa_nodes» .entry))) in
+        ⌜ r ≡ poolAs manager (placePieces pieces (entriesOf manager)) ⌝ }
 {
     let share = pages / count as u64;
     let remainder = pages % count as u64;

@@ -81,10 +81,10 @@ fn build_lists(
     pools: &[u64],
 ) -> Init
     requires { ⌜ Lists (now ram) (now configs) (now pools) ⌝ }
-    ensures { λ r. ⌜
-        r ≡ initAs manager (hasPool (rangesIn (now (pools .entry))))
-        (build builder (length (entriesOf manager)) (ramsIn (now (ram .entry))) (rangesIn (now (configs .entry))) (rangesIn (now (pools .entry))))
-        ⌝ }
+    ensures { λ r.
+        let poolRanges = rangesIn (now (pools .entry)) in
+        let built = build builder (length (entriesOf manager)) (ramsIn (now (ram .entry))) (rangesIn (now (configs .entry))) poolRanges in
+        ⌜ r ≡ initAs manager (hasPool poolRanges) built ⌝ }
 {
     let mut ram_starts = [0; LIST_ROOM];
     let mut ram_ends = [0; LIST_ROOM];
@@ -121,10 +121,10 @@ pub fn build_words(
     configs: &[u64],
     pools: &[u64],
 ) -> Init
-    ensures { λ r. ⌜
-        r ≡ initAs manager (hasPool (rangesIn (now (pools .entry))))
-        (wordsBuild used state (length (entriesOf manager)) (now (ram .entry)) (now (reserved .entry)) (now (configs .entry)) (now (pools .entry)))
-        ⌝ }
+    ensures { λ r.
+        let count = length (entriesOf manager) in
+        let built = wordsBuild used state count (now (ram .entry)) (now (reserved .entry)) (now (configs .entry)) (now (pools .entry)) in
+        ⌜ r ≡ initAs manager (hasPool (rangesIn (now (pools .entry)))) built ⌝ }
 {
     if !given_good(ram, reserved, configs, pools) {
         return Init {

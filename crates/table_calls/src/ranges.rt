@@ -15,8 +15,9 @@ pub const RANGES_ROOM: usize = 768;
 // Touching ranges of one type are joined. Answers how many ranges there are; nothing is written past the
 // end.
 pub fn write_vtl2_ranges(words: &mut [u64], manager: AddressSpaceManager) -> usize
-    ensures { λ r. ⌜ r ≡ length (vtl2Ranges (entriesOf manager)) ⌝
-        ∗ ⌜ now (words .exit) ≡ sets (now (words .entry)) 0 (rangesWords (vtl2Ranges (entriesOf manager))) ⌝ }
+    ensures { λ r.
+        let ranges = vtl2Ranges (entriesOf manager) in
+        ⌜ (r ≡ length ranges) × (now (words .exit) ≡ sets (now (words .entry)) 0 (rangesWords ranges)) ⌝ }
 {
     let list = manager.all_vtl2_ranges();
     let count = list.count;

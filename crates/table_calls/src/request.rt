@@ -93,9 +93,9 @@ fn check_words(manager: AddressSpaceManager, row: &[u64]) -> Rows
 
 fn answer_request(manager: AddressSpaceManager, row: &[u64]) -> Allocation
     requires { ⌜ length (now row) ≡ 5 ⌝ ∗ ⌜ requestGood (now row) ≡ true ⌝ }
-    ensures { λ r. ⌜
-        r ≡ allocationAs manager (typeOf (getD (now (row .entry)) 2 0)) (wordsOutcome (now (row .entry)) (entriesOf manager))
-        ⌝ }
+    ensures { λ r.
+        let words = now (row .entry) in
+        ⌜ r ≡ allocationAs manager (typeOf (getD words 2 0)) (wordsOutcome words (entriesOf manager)) ⌝ }
 {
     let node = node_of(row[0]);
     let allocation_type = type_of(row[2]);
@@ -131,8 +131,11 @@ pub fn answer_requests(
     requests: &[u64],
     answers: &mut [u64],
 ) -> AddressSpaceManager
-    ensures { λ r. ⌜ tableIn r ≡ afterAll (requestRows (now (requests .entry))) (tableIn manager) ⌝
-        ∗ ⌜ now (answers .exit) ≡ sets (now (answers .entry)) 0 (answersOn (requestRows (now (requests .entry))) (tableIn manager)) ⌝ }
+    ensures { λ r.
+        let rows = requestRows (now (requests .entry)) in ⌜
+        (tableIn r ≡ afterAll rows (tableIn manager))
+        × (now (answers .exit) ≡ sets (now (answers .entry)) 0 (answersOn rows (tableIn manager)))
+        ⌝ }
 {
     let count = requests.len() / REQUEST_WORDS;
     let mut manager = manager;

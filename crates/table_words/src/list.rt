@@ -24,8 +24,11 @@ pub fn nodes_good(words: &[u64]) -> bool
 
 // Ranges of two words each.
 pub fn read_ranges(words: &[u64], starts: &mut [u64], ends: &mut [u64])
-    ensures { λ _. ⌜ now (starts .exit) ≡ sets (now (starts .entry)) 0 (column 0 (rangeRows (now (words .entry)))) ⌝
-        ∗ ⌜ now (ends .exit) ≡ sets (now (ends .entry)) 0 (column 1 (rangeRows (now (words .entry)))) ⌝ }
+    ensures { λ _.
+        let rows = rangeRows (now (words .entry)) in ⌜
+        (now (starts .exit) ≡ sets (now (starts .entry)) 0 (column 0 rows))
+        × (now (ends .exit) ≡ sets (now (ends .entry)) 0 (column 1 rows))
+        ⌝ }
 {
     let count = words.len() / 2;
     let mut i = 0;
@@ -38,9 +41,12 @@ pub fn read_ranges(words: &[u64], starts: &mut [u64], ends: &mut [u64])
 
 // Ranges with their nodes, three words each. Of a word that is no node its lowest 32 bits.
 pub fn read_ram(words: &[u64], starts: &mut [u64], ends: &mut [u64], nodes: &mut [u32])
-    ensures { λ _. ⌜ now (starts .exit) ≡ sets (now (starts .entry)) 0 (column 0 (ramRows (now (words .entry)))) ⌝
-        ∗ ⌜ now (ends .exit) ≡ sets (now (ends .entry)) 0 (column 1 (ramRows (now (words .entry)))) ⌝
-        ∗ ⌜ now (nodes .exit) ≡ sets (now (nodes .entry)) 0 (nodeColumn (ramRows (now (words .entry)))) ⌝ }
+    ensures { λ _.
+        let rows = ramRows (now (words .entry)) in ⌜
+        (now (starts .exit) ≡ sets (now (starts .entry)) 0 (column 0 rows))
+        × (now (ends .exit) ≡ sets (now (ends .entry)) 0 (column 1 rows))
+        × (now (nodes .exit) ≡ sets (now (nodes .entry)) 0 (nodeColumn rows))
+        ⌝ }
 {
     let count = words.len() / 3;
     let mut i = 0;

@@ -80,7 +80,7 @@ plan-table-requires c κs =
     let i = t .before .before .before in
     let a = selected i in
     let b = init-built (i .before .before .before .before .new .result) _ (building i) (i .init .ensures) (t .enum-told .given .1) in
-    (entry a .pre .0, ((held a .few, held a .total), plan-is i ∙ ap (afterBuild _ _ _ _) b))
+    (entry a .pre .0, held a .few, held a .total, plan-is i ∙ ap (afterBuild _ _ _ _) b)
 
 returns : tie.Need-returns
 returns c =

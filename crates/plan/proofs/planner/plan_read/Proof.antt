@@ -29,15 +29,15 @@ module _ (r : tie.After-read-build) where
 
   -- what is read for the build is what stands behind the records of selection
   held : BuildHeld textOf given (r .read-build .result)
-  held = rw (entry .pre .1 .1 .0 .next) at (r .read-build .ensures .0)
+  held = rw (entry .pre .2 .next) at (r .read-build .ensures .0)
 
 checked : (k : tie.After-check-from) → textCheck (textOf (k .before .before)) ≡ k .check-from .result
 checked k =
     let p = k .before in
     let r = p .before in
     let s = entry r in
-    text-checked (textOf r) (p .read-pool .result .next) (p .read-pool .result .order) (s .pre .1 .0) (s .pre .1 .1 .0)
-    (p .read-pool .ensures .1 .1 ∙ r .read-build .ensures .1 .0)
+    text-checked (textOf r) (p .read-pool .result .next) (p .read-pool .result .order) (s .pre .1) (s .pre .2)
+    (p .read-pool .ensures .2 ∙ r .read-build .ensures .1)
     (k .check-from .ensures)
 
 returns : tie.Need-returns
@@ -55,15 +55,15 @@ module _ (c : tie.After-at-most2) where
 
   configs-lent : Lent configRoom (given read .configs) (c .before .at-most .result) (read .read-build .last .1 .1 .1 .0) (read .read-build .last .1 .1 .1 .1 .0)
   configs-lent =
-      let n = entry read .pre .1 .1 .0 .next in
-      let e = read .read-build .ensures .1 .1 in
-      ranges-lent configRoom (given read .configs) (rw n at (e .0)) (rw n at (e .1 .0)) (held read .config-count) (c .before .at-most .ensures)
+      let n = entry read .pre .2 .next in
+      let e = read .read-build .ensures in
+      ranges-lent configRoom (given read .configs) (rw n at (e .2)) (rw n at (e .3)) (held read .config-count) (c .before .at-most .ensures)
 
   pools-lent : Lent poolRoom (given read .pools) (c .at-most2 .result) (read .read-build .last .1 .1 .1 .1 .1 .0) (read .read-build .last .1 .1 .1 .1 .1 .1 .0)
   pools-lent =
-      let n = entry read .pre .1 .1 .0 .next in
-      let e = read .read-build .ensures .1 .1 .1 .1 in
-      ranges-lent poolRoom (given read .pools) (rw n at (e .0)) (rw n at (e .1)) (held read .pool-count) (c .at-most2 .ensures)
+      let n = entry read .pre .2 .next in
+      let e = read .read-build .ensures in
+      ranges-lent poolRoom (given read .pools) (rw n at (e .4)) (rw n at (e .5)) (held read .pool-count) (c .at-most2 .ensures)
 
 array-share-prefix-config-starts : tie.Need-array-share-prefix-config-starts
 array-share-prefix-config-starts c = configs-lent c .starts
@@ -100,12 +100,12 @@ plan-accepted-requires c κs =
       s .pre .0,
       record {
         accepted = checked k ∙ told x .enum-told .given .1;
-        selection = s .pre .1 .1 .0;
+        selection = s .pre .2;
         building = held r;
         pool-first = p .0 ∙ ap poolFirst rest;
-        next = p .1 .0 ∙ ap behindOne rest;
-        map-room = s .pre .1 .1 .1 .0;
-        imports-room = s .pre .1 .1 .1 .1;
+        next = p .1 ∙ ap behindOne rest;
+        map-room = s .pre .3;
+        imports-room = s .pre .4;
         configs-room = configs-lent x .ranges;
         pools-room = pools-lent x .ranges;
       },

@@ -42,7 +42,7 @@ module _ (s : tie.Start) where
   placement = placedFor pages (s .args .pool .pool .split) (entriesOf (s .args .table))
 
   plan-is : planOf (now (s .args .text)) ≡ afterPool ram gets placement
-  plan-is = rw (← (s .pre .1 .0 .1)) at (s .pre .1 .1)
+  plan-is = rw (← (s .pre .2)) at (s .pre .3)
 
 -- a pool that is placed, as the answer holds it, and the lines of the plan
 module _ (a : tie.After-answer2) where
@@ -67,7 +67,7 @@ write-plan-requires : tie.Need-write-plan-requires
 write-plan-requires c κs =
     let a = c .before .before in
     let s = entry (pool a) in
-    ((s .pre .1 .0 .0, few a), plan-room (now (s .args .text)) _ (now (s .args .output)) (s .pre .0) (planned a))
+    (s .pre .1, few a, plan-room (now (s .args .text)) _ (now (s .args .output)) (s .pre .0) (planned a))
 
 returns : tie.Need-returns
 returns c =

@@ -34,19 +34,17 @@ module _ (c : tie.After-at-most2) where
   map-room : let l = read .read-selection .last .1 in MapLent (given .map) (c .before .at-most .result) (l .0) (l .1 .0) (l .1 .1 .0) (l .1 .1 .1 .0)
   map-room =
       let e = read .read-selection .ensures in
-      let l = e .1 in
-      map-lent (given .map) (l .0) (l .1 .0) (l .1 .1 .0) (l .1 .1 .1 .0) (e .0 .map-count) (c .before .at-most .ensures)
+      map-lent (given .map) (e .1) (e .2) (e .3) (e .4) (e .0 .map-count) (c .before .at-most .ensures)
 
   imports-room : let l = read .read-selection .last .1 .1 .1 .1 .1 in Lent importRoom (given .imports) (c .at-most2 .result) (l .0) (l .1 .0)
   imports-room =
       let e = read .read-selection .ensures in
-      let l = e .1 .1 .1 .1 .1 in
-      ranges-lent importRoom (given .imports) (l .0) (l .1) (e .0 .import-count) (c .at-most2 .ensures)
+      ranges-lent importRoom (given .imports) (e .5) (e .6) (e .0 .import-count) (c .at-most2 .ensures)
 
 plan-read-requires : tie.Need-plan-read-requires
 plan-read-requires c κs =
     let m = c .before .before .before .before .before .before .before in
-    (entry m .pre, (short m .if1 .left, (read m .read-selection .ensures .0, (map-room m .map, imports-room m .ranges))))
+    (entry m .pre, short m .if1 .left, read m .read-selection .ensures .0, map-room m .map, imports-room m .ranges)
 
 pub plan-within-spec : {M : Type 1} → statement M
 plan-within-spec =

@@ -61,7 +61,7 @@ module _ (s : tie.Start) where
   -- the room for all lists
   room : Room (length (ramLines ram) + (length (poolLines pool) + (length (getLines gets table) + length (mapLines (afterGets gets table))))) 0
       (now (s .args .output))
-  room = rw plan-count at (s .pre .1)
+  room = rw plan-count at (s .pre .2)
 
 abbrev entry : tie.After-write-ram-lines → tie.Start
 entry w = w .before .before .before .before .before .before .before .before .before .before .before .before .before
@@ -88,7 +88,7 @@ write-ram-lines-requires c κs =
 write-pool-lines-requires : tie.Need-write-pool-lines-requires
 write-pool-lines-requires c κs =
     let w = c .before .before .before in
-    (entry w .pre .0 .1, omega (arith, behind-ram w, pool-counted (entry w)))
+    (entry w .pre .1, omega (arith, behind-ram w, pool-counted (entry w)))
 
 answer-gets-requires : tie.Need-answer-gets-requires
 answer-gets-requires c κs = omega (arith, behind-pool (c .before .before .before))

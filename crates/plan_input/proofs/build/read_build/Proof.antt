@@ -30,26 +30,27 @@ returns c =
     let a = u .before .before .args in
     let given = buildIn (recordsAt (a .text .now) (a .at)) in
     let used = u .read-range .ensures in
-    let state = rw (used .1 .0) at (s .read-range2 .ensures) in
-    let configs = rw (state .1 .0) at (g .read-ranges .ensures) in
-    let keep = rw (configs .1 .1 .0) at (k .read-range3 .ensures) in
-    let side = rw (keep .1 .0) at (i .read-range4 .ensures) in
-    let tables = rw (side .1 .0) at (t .read-range5 .ensures) in
-    let log = rw (tables .1 .0) at (l .read-range6 .ensures) in
-    let pools = rw (log .1 .0) at (p .read-ranges2 .ensures) in
+    let state = rw (used .1) at (s .read-range2 .ensures) in
+    let configs = rw (state .1) at (g .read-ranges .ensures) in
+    let keep = rw (configs .2) at (k .read-range3 .ensures) in
+    let side = rw (keep .1) at (i .read-range4 .ensures) in
+    let tables = rw (side .1) at (t .read-range5 .ensures) in
+    let log = rw (tables .1) at (l .read-range6 .ensures) in
+    let pools = rw (log .1) at (p .read-ranges2 .ensures) in
     let builder = b .builder-of .ensures ∙ same-builder (used .0) (state .0) (keep .0) (side .0) (tables .0) (log .0) in
     let singles = v .is-valid .ensures ∙ ap singlesValid builder in (
       record {
         builder = builder;
         config-count = configs .0;
         pool-count = pools .0;
-        valid = valid-three singles (valid-by (given .configs) (configs .1 .0)) (valid-by (given .pools) (pools .1 .0));
-        next = pools .1 .1 .0;
+        valid = valid-three singles (valid-by (given .configs) (configs .1)) (valid-by (given .pools) (pools .1));
+        next = pools .2;
       },
-      (
-        pools .1 .1 .1 .0 ∙ log .1 .1 ∙ tables .1 .1 ∙ side .1 .1 ∙ keep .1 .1 ∙ configs .1 .1 .1 .0 ∙ state .1 .1 ∙ used .1 .1,
-        (configs .1 .1 .1 .1 .0, (configs .1 .1 .1 .1 .1, pools .1 .1 .1 .1)),
-      ),
+      pools .3 ∙ log .2 ∙ tables .2 ∙ side .2 ∙ keep .2 ∙ configs .3 ∙ state .2 ∙ used .2,
+      configs .4,
+      configs .5,
+      pools .4,
+      pools .5,
     )
 
 pub read-build-spec : {M : Type 1} → statement M

@@ -7,8 +7,7 @@ use native.Mathlib.Omega.{arith}
 use borrow.Author.Needs.{needs}
 use lib.ListN.{length}
 use Rattle.plan_record.specs.declared.record.Record.{Record}
-use Rattle.plan_text.specs.Text.{checkFrom, recordsFrom}
-use Rattle.plan_input.specs.Record.{recordsAt}
+use Rattle.plan_input.specs.Record.{recordsAt, SameCheck}
 use Rattle.plan_input.specs.Word.{wordsFirst, behindWords}
 use Rattle.plan_input.specs.Entry.{entryIn, entriesFirst}
 use Rattle.host_map.specs.Map.{mapRanges, mapStarts, mapEnds, mapNodes, mapProtectable}
@@ -26,7 +25,7 @@ Inv-loop text at order starts₀ ends₀ nodes₀ protectable₀ count₀ check�
     (count + length left ≡ length all)
     × (checkedAll check (mapRanges left) ≡ checkedAll checkStart (mapRanges all))
     × (behindWords 2 (recordsAt text next) ≡ behindWords 2 (recordsAt text at))
-    × (checkFrom after (recordsFrom next text) ≡ checkFrom order (recordsFrom at text))
+    × SameCheck text order at after next
     × Stores starts₀ (mapStarts all) count starts (mapStarts left)
     × Stores ends₀ (mapEnds all) count ends (mapEnds left)
     × Stores nodes₀ (mapNodes all) count nodes (mapNodes left)
@@ -56,7 +55,7 @@ turn : (g : tie.After-record Inv-loop μ-loop)
 turn g =
     let q = g .before .before in
     let l = q .before in
-    words-next 2 (records l (l .loop .next)) (sym (q .read-word .ensures .0) ∙ g .«record» .given .1) (q .read-word .ensures .1 .0)
+    words-next 2 (records l (l .loop .next)) (sym (q .read-word .ensures .0) ∙ g .«record» .given .1) (q .read-word .ensures .1)
 
 loop-holds : tie.Need-loop-holds Inv-loop μ-loop
 loop-holds c =
@@ -68,7 +67,7 @@ returns c =
     let l = q .before in
     let e = words-none 2 (records l (l .loop .next)) (sym (q .read-word .ensures .0) ∙ c .enum-told .given .1) in
     let i = rw (e .0, e .1) at (l .loop .inv) in
-    (omega (arith, i .0), (i .1, (i .2, (i .3, (stores-none (i .4), (stores-none (i .5), (stores-none (i .6), stores-none (i .7))))))))
+    (omega (arith, i .0), i .1, i .2, i .3, stores-none (i .4), stores-none (i .5), stores-none (i .6), stores-none (i .7))
 
 add-count : tie.Need-add-count Inv-loop μ-loop
 add-count c =
@@ -98,7 +97,7 @@ loop-again c =
       omega (arith, i .0),
       rw (c .with .ensures) (i .1),
       i .2,
-      g .before .before .read-word .ensures .1 .1 ∙ i .3,
+      g .before .before .read-word .ensures .2 ∙ i .3,
       stores-next (put .0) (i .4),
       stores-next (put .1 .0) (i .5),
       stores-next (put .1 .1 .0) (i .6),

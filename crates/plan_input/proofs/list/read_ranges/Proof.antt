@@ -7,8 +7,7 @@ use native.Mathlib.Omega.{arith}
 use borrow.Author.Needs.{needs}
 use lib.ListN.{length}
 use Rattle.plan_record.specs.declared.record.Record.{Record}
-use Rattle.plan_text.specs.Text.{checkFrom, recordsFrom}
-use Rattle.plan_input.specs.Record.{recordsAt}
+use Rattle.plan_input.specs.Record.{recordsAt, SameCheck}
 use Rattle.plan_input.specs.Word.{wordsFirst, behindWords}
 use Rattle.plan_input.specs.Range.{rangeIn, rangesFirst, startsIn, endsIn}
 use Rattle.host_map.specs.Rows.{checkStart, checkedAll}
@@ -25,7 +24,7 @@ Inv-loop text at order place starts₀ ends₀ count₀ check₀ next₀ after�
     (count + length left ≡ length all)
     × (checkedAll check left ≡ checkedAll checkStart all)
     × (behindWords place (recordsAt text next) ≡ behindWords place (recordsAt text at))
-    × (checkFrom after (recordsFrom next text) ≡ checkFrom order (recordsFrom at text))
+    × SameCheck text order at after next
     × Stores starts₀ (startsIn all) count starts (startsIn left)
     × Stores ends₀ (endsIn all) count ends (endsIn left)
 
@@ -52,7 +51,7 @@ turn g =
     let l = q .before in
     words-next (entry l .args .place) (records l (l .loop .next))
     (sym (q .read-word .ensures .0) ∙ g .«record» .given .1)
-    (q .read-word .ensures .1 .0)
+    (q .read-word .ensures .1)
 
 loop-holds : tie.Need-loop-holds Inv-loop μ-loop
 loop-holds c = (omega arith, rw (c .start .ensures), refl, refl, record { all = refl }, record { all = refl })
@@ -63,7 +62,7 @@ returns c =
     let l = q .before in
     let e = words-none (entry l .args .place) (records l (l .loop .next)) (sym (q .read-word .ensures .0) ∙ c .enum-told .given .1) in
     let i = rw (e .0, e .1) at (l .loop .inv) in
-    (omega (arith, i .0), (i .1, (i .2, (i .3, (stores-none (i .4), stores-none (i .5))))))
+    (omega (arith, i .0), i .1, i .2, i .3, stores-none (i .4), stores-none (i .5))
 
 add-count : tie.Need-add-count Inv-loop μ-loop
 add-count c =
@@ -93,7 +92,7 @@ loop-again c =
       omega (arith, i .0),
       rw (c .with .ensures) (i .1),
       i .2,
-      g .before .before .read-word .ensures .1 .1 ∙ i .3,
+      g .before .before .read-word .ensures .2 ∙ i .3,
       stores-next (s .put-address .ensures) (i .4),
       stores-next (p .put-address2 .ensures) (i .5),
     )

@@ -14,14 +14,14 @@ returns c =
     let n = r .before .before in
     let a = n .before .before .args in
     let o = check-on (a .text .now) (a .at) (a .order) (n .next-record .ensures) (r .«record» .given .1) (c .order-after .ensures) in
-    rw (records-by (a .text .now) (a .at) (n .next-record .ensures) (r .«record» .given .1)) (s .shape-in .ensures, (refl, o))
+    rw (records-by (a .text .now) (a .at) (n .next-record .ensures) (r .«record» .given .1)) (s .shape-in .ensures, refl, o)
 
 returns-2 : tie.Need-returns-2
 returns-2 c =
     let n = c .before .before in
     let a = n .before .before .args in
     let e = step-other (a .text .now) (a .at) (n .next-record .result) (n .next-record .ensures) (c .before .match .keys2) in
-    rw e (c .no-shape .ensures, (refl, refl))
+    rw e (c .no-shape .ensures, refl, refl)
 
 pub read-shape-spec : {M : Type 1} → statement M
 read-shape-spec =

@@ -22,10 +22,9 @@ returns c =
     let s = f .before in
     let given = selectionIn (recordsAt (s .before .before .args .text .now) 0) in
     let shape = s .read-shape .ensures in
-    let range = rw (shape .1 .0) at (f .read-range .ensures) in
-    let map = rw (range .1 .0) at (m .read-map .ensures) in
-    let held = map .1 .1 .1 .1 in
-    let imports = rw (map .1 .1 .0) at (l .read-ranges .ensures) in
+    let range = rw (shape .1) at (f .read-range .ensures) in
+    let map = rw (range .1) at (m .read-map .ensures) in
+    let imports = rw (map .2) at (l .read-ranges .ensures) in
     let file = o .or-empty .ensures ∙ ap orEmpty (range .0) in
     let valid = v .is-valid .ensures ∙ ap validRange file in (
       record {
@@ -33,12 +32,17 @@ returns c =
         file = file;
         map-count = map .0;
         import-count = imports .0;
-        valid = valid-three valid (valid-by (mapRanges (given .map)) (map .1 .0)) (valid-by (given .imports) (imports .1 .0));
-        ascending = ap₂ _&&_ (ascending-by (mapRanges (given .map)) (map .1 .0)) (ascending-by (given .imports) (imports .1 .0));
-        next = imports .1 .1 .0;
-        order = imports .1 .1 .1 .0 ∙ map .1 .1 .1 .0 ∙ range .1 .1 ∙ shape .1 .1;
+        valid = valid-three valid (valid-by (mapRanges (given .map)) (map .1)) (valid-by (given .imports) (imports .1));
+        ascending = ap₂ _&&_ (ascending-by (mapRanges (given .map)) (map .1)) (ascending-by (given .imports) (imports .1));
+        next = imports .2;
+        order = imports .3 ∙ map .3 ∙ range .2 ∙ shape .2;
       },
-      (held .0, (held .1 .0, (held .1 .1 .0, (held .1 .1 .1, imports .1 .1 .1 .1)))),
+      map .4,
+      map .5,
+      map .6,
+      map .7,
+      imports .4,
+      imports .5,
     )
 
 pub read-selection-spec : {M : Type 1} → statement M

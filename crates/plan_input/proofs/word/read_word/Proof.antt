@@ -17,7 +17,7 @@ returns c =
     let a = n .before .before .args in
     let e = step-other (a .text .now) (a .at) (n .next-record .result) (n .next-record .ensures) (c .before .match .keys2) in
     let q = c .none-at .ensures in
-    rw (e, q .1, q .2) (q .0, (e, refl))
+    rw (e, q .1, q .2) (q .0, e, refl)
 
 returns-2 : tie.Need-returns-2
 returns-2 c =
@@ -28,7 +28,7 @@ returns-2 c =
     let e = records-by (a .text .now) (a .at) (n .next-record .ensures) (r .«record» .given .1) in
     let t = ne-eqb (placeOf (r .«record» .given .0 .0)) (a .place) (λ e. c .before .if1 .taken (p .record-place .ensures ∙ e)) in
     let q = c .none-at2 .ensures in
-    rw (q .1, q .2) (rw (e, t) (q .0), (rw (e, t), refl))
+    rw (q .1, q .2) (rw (e, t) (q .0), rw (e, t), refl)
 
 returns-3 : tie.Need-returns-3
 returns-3 c =
@@ -39,7 +39,7 @@ returns-3 c =
     let e = records-by (a .text .now) (a .at) (n .next-record .ensures) (r .«record» .given .1) in
     let t = eq-eqb (placeOf (r .«record» .given .0 .0)) (a .place) (sym (p .record-place .ensures) ∙ c .before .if1 .left) in
     let o = check-on (a .text .now) (a .at) (a .order) (n .next-record .ensures) (r .«record» .given .1) (c .order-after .ensures) in
-    rw (e, t) (refl, (refl, o))
+    rw (e, t) (refl, refl, o)
 
 pub read-word-spec : {M : Type 1} → statement M
 read-word-spec =

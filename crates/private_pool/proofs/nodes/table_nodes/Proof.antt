@@ -57,7 +57,7 @@ returns-2 c =
     let inv = l .loop .inv .1 in
     let end : length (entriesOf (l .before .before .args .t1)) ≤ l .loop .i = omega (arith, c .loop-test .left, l .before .len .ensures) in
     let within : l .loop .i ≤ 256 = omega (arith, l .loop .inv .0, l .before .len .ensures, most (l .before .before)) in
-    ((nodes-count inv end within, omega (arith, inv .few)), nodes-all inv end within)
+    (nodes-count inv end within, omega (arith, inv .few), nodes-all inv end within)
 
 pub table-nodes-spec : {M : Type 1} → statement M
 table-nodes-spec =

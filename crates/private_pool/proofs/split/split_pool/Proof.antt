@@ -21,22 +21,22 @@ returns c =
     let a = c .before .before .before .before .args in
     let t = c .before .before .table-nodes in
     c .refused .ensures
-    ∙ sym (ap (poolAs (a .manager)) (split-none (a .pages) (entriesOf (a .manager)) (sym (t .ensures .0 .0) ∙ c .before .if1 .taken)))
+    ∙ sym (ap (poolAs (a .manager)) (split-none (a .pages) (entriesOf (a .manager)) (sym (t .ensures .0) ∙ c .before .if1 .taken)))
 
 returns-2 : tie.Need-returns-2
 returns-2 c =
     let a = c .before .before .before .before .before .args in
     let t = c .before .before .before .table-nodes in
     c .refused2 .ensures
-    ∙ sym (ap (poolAs (a .manager)) (split-few (a .pages) (entriesOf (a .manager)) (rw (t .ensures .0 .0) at (c .before .if2 .taken))))
+    ∙ sym (ap (poolAs (a .manager)) (split-few (a .pages) (entriesOf (a .manager)) (rw (t .ensures .0) at (c .before .if2 .taken))))
 
 place-pieces-requires : tie.Need-place-pieces-requires
 place-pieces-requires c κs =
     let t = c .before .before .before .table-nodes in
     let some = c .before .before .if1 .left in
     let es = entriesOf (c .before .before .before .before .before .args .manager) in
-    let size = nodes-size (tableNodes es) noNodes (t .ensures .0 .0) (t .ensures .1) (t .ensures .0 .1) in
-    (omega arith, t .ensures .0 .1, size, c .before .before .before .before .before .pre)
+    let size = nodes-size (tableNodes es) noNodes (t .ensures .0) (t .ensures .2) (t .ensures .1) in
+    (omega arith, t .ensures .1, size, c .before .before .before .before .before .pre)
 
 returns-3 : tie.Need-returns-3
 returns-3 c =
@@ -44,9 +44,9 @@ returns-3 c =
     let a = d .before .before .args in
     let es = entriesOf (a .manager) in
     let t = d .table-nodes in
-    let n = t .ensures .0 .0 in
+    let n = t .ensures .0 in
     let good = split-good (a .pages) es (λ h. c .before .before .before .if1 .left (n ∙ h)) (rw n at (c .before .before .if2 .left)) in
-    c .place-pieces .ensures ∙ rw (good, nodes-taken (tableNodes es) noNodes n (t .ensures .1))
+    c .place-pieces .ensures ∙ rw (good, nodes-taken (tableNodes es) noNodes n (t .ensures .2))
 
 pub split-pool-spec : {M : Type 1} → statement M
 split-pool-spec =

@@ -20,10 +20,10 @@ module _ (r : tie.After-read-ram) where
   ram-starts = column-held 3 0 ram (r .read-ram .ensures .0) (at-ram r .pre .ram-few)
 
   ram-ends : Held (r .read-ram .last .1 .1 .0) (column 1 (ramRows ram)) (length ram / 3)
-  ram-ends = column-held 3 1 ram (r .read-ram .ensures .1 .0) (at-ram r .pre .ram-few)
+  ram-ends = column-held 3 1 ram (r .read-ram .ensures .1) (at-ram r .pre .ram-few)
 
   ram-nodes : Held (r .read-ram .last .1 .1 .1 .0) (column 2 (ramRows ram)) (length ram / 3)
-  ram-nodes = nodes-held ram (r .read-ram .ensures .1 .1) (at-ram r .pre .nodes) (at-ram r .pre .ram-few)
+  ram-nodes = nodes-held ram (r .read-ram .ensures .2) (at-ram r .pre .nodes) (at-ram r .pre .ram-few)
 
 abbrev at-configs : tie.After-read-ranges → tie.Start
 at-configs r = r .before .before .before .before .before .before .before .before .before .before .before .before .before

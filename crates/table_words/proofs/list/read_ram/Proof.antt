@@ -54,7 +54,7 @@ returns c =
     let ws = start l .args .words .now in
     let i = l .loop .inv in
     let none = drop-of-length-le (ramRows ws) {i = l .loop .i} (omega (arith, length-rows 3 (length ws / 3) ws)) in
-    (stores-end (ap (column 0) none) (i .1), (stores-end (ap (column 1) none) (i .2), stores-end (ap nodeColumn none) (i .3)))
+    (stores-end (ap (column 0) none) (i .1), stores-end (ap (column 1) none) (i .2), stores-end (ap nodeColumn none) (i .3))
 
 pub read-ram-spec : {M : Type 1} → statement M
 read-ram-spec =
