@@ -38,7 +38,7 @@ use Rattle.plan_input.specs.declared.selection.SelectionRead.{SelectionRead}
 use Rattle.plan_input.specs.Record.{recordsAt, behindOne}
 use Rattle.plan_input.specs.Once.{poolFirst}
 use Rattle.plan_input.specs.Selection.{SelectionIn, selectionIn, SelectionHeld}
-use Rattle.plan_input.specs.Build.{buildIn, BuildHeld}
+use Rattle.plan_input.specs.Build.{BuildIn, buildIn, BuildHeld}
 use Rattle.plan_input.specs.Input.{Input, inputOf, textRanges}
 use Rattle.plan_input.specs.Room.{mapRoom, importRoom, configRoom, poolRoom}
 use Rattle.plan_output.specs.Line.{written}
@@ -126,18 +126,25 @@ pub record Answers (p : Plan) (before after : List ℕ) (r : Planned) : Type 0 w
   pub answer : r ≡ plannedAs p
   pub output : after ≡ outputAs p before
 
+-- what the records of a text give selection, and those behind them the build
+abbrev pub selectionGiven : List ℕ → SelectionIn
+selectionGiven bytes = selectionIn (recordsAt bytes 0)
+
+abbrev pub buildGiven : List ℕ → BuildIn
+buildGiven bytes = buildIn (selectionGiven bytes .rest)
+
 -- all that is read of an accepted text before its requests: of its lists as much as there is room for
 pub record TextRead (bytes : List ℕ) (read : SelectionRead) (build : BuildRead) (pool : PoolRead) (map : List MemoryEntry)
     (imports configs pools : List MemoryRange) : Type 0 where
   pub accepted : textCheck bytes ≡ text.Accepted
-  pub selection : SelectionHeld bytes (selectionIn (recordsAt bytes 0)) read
-  pub building : BuildHeld bytes (buildIn (selectionIn (recordsAt bytes 0) .rest)) build
-  pub pool-first : pool .pool ≡ poolFirst (buildIn (selectionIn (recordsAt bytes 0) .rest) .rest)
-  pub next : recordsAt bytes (pool .next) ≡ behindOne (buildIn (selectionIn (recordsAt bytes 0) .rest) .rest)
-  pub map-room : map ≡ take mapRoom (selectionIn (recordsAt bytes 0) .map)
-  pub imports-room : imports ≡ take importRoom (selectionIn (recordsAt bytes 0) .imports)
-  pub configs-room : configs ≡ take configRoom (buildIn (selectionIn (recordsAt bytes 0) .rest) .configs)
-  pub pools-room : pools ≡ take poolRoom (buildIn (selectionIn (recordsAt bytes 0) .rest) .pools)
+  pub selection : SelectionHeld bytes (selectionGiven bytes) read
+  pub building : BuildHeld bytes (buildGiven bytes) build
+  pub pool-first : pool .pool ≡ poolFirst (buildGiven bytes .rest)
+  pub next : recordsAt bytes (pool .next) ≡ behindOne (buildGiven bytes .rest)
+  pub map-room : map ≡ take mapRoom (selectionGiven bytes .map)
+  pub imports-room : imports ≡ take importRoom (selectionGiven bytes .imports)
+  pub configs-room : configs ≡ take configRoom (buildGiven bytes .configs)
+  pub pools-room : pools ≡ take poolRoom (buildGiven bytes .pools)
 
 -- what selection comes to, by as much of the lists that are read as there is room for
 abbrev pub choiceOf : SelectionIn → Choice

@@ -14,10 +14,11 @@ ghost use Rattle.plan_text.specs.Text.{textSize};
 ghost use Rattle.plan_input.specs.Record.{recordsAt};
 ghost use Rattle.plan_input.specs.Input.{getsFirst};
 ghost use Rattle.plan_input.specs.Room.{mapRoom, importRoom};
-ghost use Rattle.plan_input.specs.Selection.{selectionIn, SelectionHeld};
+ghost use Rattle.plan_input.specs.Selection.{SelectionHeld};
 ghost use Rattle.plan.specs.Line.{Room, Wrote};
+ghost use Rattle.boot_ram.specs.Verdict.{maxChosen};
 ghost use Rattle.private_pool.specs.Pool.{maxPoolRanges};
-ghost use Rattle.plan.specs.Planner.{planLines, afterBuild, planOf, plannedAs, outputAs, Answers, outputSizeFor, plannedTo, outputTo, TextRead, Selected};
+ghost use Rattle.plan.specs.Planner.{planLines, afterBuild, planOf, plannedAs, outputAs, Answers, outputSizeFor, plannedTo, outputTo, selectionGiven, TextRead, Selected};
 use crate::get::answer_gets;
 use crate::pool::place_pool;
 use crate::write::write_map_lines;
@@ -89,7 +90,7 @@ fn write_plan(
     requires { let chosen = firstTagged «ram_count» (ram .starts) (ram .ends) (ram .nodes) in
         let requests = getsFirst (recordsAt (now text) gets) in
         let lines = planLines chosen (take «pool_count» (pool .ranges)) requests (entriesOf (pool .manager)) in
-        ⌜ («ram_count» ≤ 64) × («pool_count» ≤ maxPoolRanges) × Room (length lines) 0 (now output) ⌝ }
+        ⌜ («ram_count» ≤ maxChosen) × («pool_count» ≤ maxPoolRanges) × Room (length lines) 0 (now output) ⌝ }
     ensures { λ r.
         let chosen = firstTagged «ram_count» (ram .starts) (ram .ends) (ram .nodes) in
         let requests = getsFirst (recordsAt (now (text .entry)) gets) in
@@ -119,7 +120,7 @@ fn plan_table(
     requires { let chosen = firstTagged «ram_count» (ram .starts) (ram .ends) (ram .nodes) in
         let requests = getsFirst (recordsAt (now text) (pool .next)) in ⌜
         (outputSizeFor (length (now text)) ≤ length (now output))
-        × («ram_count» ≤ 64)
+        × («ram_count» ≤ maxChosen)
         × («ram_bytes» ≡ bytesOf chosen)
         × (planOf (now text) ≡ afterBuild isolation (pool .pool) chosen requests (built (entriesOf table)))
         ⌝ }
@@ -305,7 +306,7 @@ fn plan_read<'a>(
     import_ends: &'a [u64],
     output: &mut [u8],
 ) -> Planned
-    requires { let given = selectionIn (recordsAt (now text) 0) in ⌜
+    requires { let given = selectionGiven (now text) in ⌜
         (outputSizeFor (length (now text)) ≤ length (now output))
         × (length (now text) ≤ textSize)
         × SelectionHeld (now text) given read
