@@ -1,7 +1,7 @@
 -- The lists that are reported (docs/SPEC.md, section 23).
 use Prim.Native.Nat.{ℕ}
 use mathlib.Core.Bool.{Bool, cond, _&&_}
-use mathlib.Core.List.{List, [], _∷_, _++_}
+use mathlib.Core.List.{List, [], _∷_, _++_, map}
 use lib.Dec.{eqb}
 use lib.ListN.{drop}
 use Rattle.memory_range.specs.declared.range.MemoryRange.{MemoryRange}
@@ -25,8 +25,7 @@ abbrev pub typedRange : AddressRange → TaggedRange
 typedRange e = record { range = e .range; tag = typeNumber (vtlType (e .usage)) }
 
 abbrev pub typedRanges : List AddressRange → List TaggedRange
-typedRanges [] = []
-typedRanges (e ∷ es) = typedRange e ∷ typedRanges es
+typedRanges = map typedRange
 
 -- whether an entry goes on where a range of the type of this number ends
 abbrev pub continuesAt : ℕ → ℕ → AddressRange → Bool
@@ -41,8 +40,7 @@ abbrev pub numberedRange : Vtl2Range → TaggedRange
 numberedRange r = record { range = r .range; tag = typeNumber (r .«vtl_type») }
 
 abbrev pub numberedRanges : List Vtl2Range → List TaggedRange
-numberedRanges [] = []
-numberedRanges (r ∷ rs) = numberedRange r ∷ numberedRanges rs
+numberedRanges = map numberedRange
 
 -- the reserved entries, in the table's order, unjoined
 abbrev pub reservedIn : MemoryRange → AddressUsage → List ReservedRange

@@ -1,7 +1,7 @@
 -- The table and what it means (docs/SPEC.md, section 21).
 use Prim.Native.Nat.{ℕ}
 use mathlib.Core.Bool.{Bool, false}
-use mathlib.Core.List.{List, [], _∷_, _++_}
+use mathlib.Core.List.{List, _++_, map}
 use lib.ListN.{length, take, drop, replicate}
 use Rattle.memory_range.specs.Range.{range}
 use Rattle.memory_range.specs.declared.range.MemoryRange.{MemoryRange}
@@ -40,5 +40,4 @@ emptyTable = record { «address_space» = replicate maxAddressRanges noEntry; co
 
 -- the ranges of entries
 abbrev pub rangesAt : List AddressRange → List MemoryRange
-rangesAt [] = []
-rangesAt (e ∷ es) = e .range ∷ rangesAt es
+rangesAt = map (λ e. e .range)

@@ -2,7 +2,7 @@
 use Prim.Native.Nat.{ℕ}
 use mathlib.Core.Path.{_≡_}
 use mathlib.Core.Bool.{Bool, true, false, cond}
-use mathlib.Core.List.{List, [], _∷_}
+use mathlib.Core.List.{List, [], _∷_, map}
 use lib.ListN.{length}
 use Rattle.memory_range.specs.declared.range.MemoryRange.{MemoryRange}
 use Rattle.memory_range.specs.declared.range.TaggedRange.{TaggedRange}
@@ -40,20 +40,16 @@ isProtectable Memory = false
 
 -- each field of a map as a list
 abbrev pub mapStarts : List MemoryEntry → List ℕ
-mapStarts [] = []
-mapStarts (e ∷ es) = e .range .start ∷ mapStarts es
+mapStarts = map (λ e. e .range .start)
 
 abbrev pub mapEnds : List MemoryEntry → List ℕ
-mapEnds [] = []
-mapEnds (e ∷ es) = e .range .end ∷ mapEnds es
+mapEnds = map (λ e. e .range .end)
 
 abbrev pub mapNodes : List MemoryEntry → List ℕ
-mapNodes [] = []
-mapNodes (e ∷ es) = e .vnode ∷ mapNodes es
+mapNodes = map (λ e. e .vnode)
 
 abbrev pub mapProtectable : List MemoryEntry → List Bool
-mapProtectable [] = []
-mapProtectable (e ∷ es) = isProtectable (e .«mem_type») ∷ mapProtectable es
+mapProtectable = map (λ e. isProtectable (e .«mem_type»))
 
 -- an entry's range with its node
 abbrev pub nodedRange : MemoryEntry → TaggedRange
@@ -61,8 +57,7 @@ nodedRange e = record { range = e .range; tag = e .vnode }
 
 -- all entries: boot mode takes both types alike
 abbrev pub entriesIn : List MemoryEntry → List TaggedRange
-entriesIn [] = []
-entriesIn (e ∷ es) = nodedRange e ∷ entriesIn es
+entriesIn = map nodedRange
 
 abbrev pub mapRanges : List MemoryEntry → List MemoryRange
 mapRanges map = rangesIn (entriesIn map)

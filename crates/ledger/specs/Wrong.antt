@@ -1,7 +1,7 @@
 -- Planners that are wrong, each in one way and else right (docs/SPEC.md, section 27). The claim is refuted for each of them (Laws/Wrong.antt).
 use Prim.Native.Nat.{ℕ}
 use mathlib.Core.Bool.{Bool, cond, _||_}
-use mathlib.Core.List.{List, [], _∷_}
+use mathlib.Core.List.{List, [], _∷_, map}
 use mathlib.Core.Option.{Option, none, some}
 use lib.Dec.{eqb}
 use Rattle.refusal.specs.Rows.{unless}
@@ -126,8 +126,7 @@ abbrev pub retyped : AddressRange → AddressRange
 retyped e = entry (e .range) (e .vnode) (Reserved Vtl2Config)
 
 abbrev pub retypeBelow : ℕ → List AddressRange → List AddressRange
-retypeBelow a [] = []
-retypeBelow a (e ∷ es) = cond (eqb (e .range .end) a) (retyped e) e ∷ retypeBelow a es
+retypeBelow a = map (λ e. cond (eqb (e .range .end) a) (retyped e) e)
 
 abbrev pub retypeEach : List AllocatedRange → List AddressRange → List AddressRange
 retypeEach [] es = es

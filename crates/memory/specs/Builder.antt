@@ -1,7 +1,7 @@
 -- What a build is given by single ranges (docs/SPEC.md, section 24).
 use Prim.Native.Nat.{ℕ, _+_}
 use mathlib.Core.Bool.{Bool, true, _&&_, cond}
-use mathlib.Core.List.{List, [], _∷_, _++_}
+use mathlib.Core.List.{List, [], _∷_, _++_, map}
 use lib.Dec.{ltb}
 use lib.ListN.{length}
 use Rattle.memory_range.specs.declared.range.MemoryRange.{MemoryRange}
@@ -91,8 +91,7 @@ abbrev pub reservedAs : ReservedMemoryType → MemoryRange → TaggedRange
 reservedAs t r = record { range = r; tag = reservedNumber t }
 
 abbrev pub allAs : ReservedMemoryType → List MemoryRange → List TaggedRange
-allAs t [] = []
-allAs t (r ∷ rs) = reservedAs t r ∷ allAs t rs
+allAs t = map (reservedAs t)
 
 abbrev pub optionAs : ReservedMemoryType → OptionRange → List TaggedRange
 optionAs t (Some r) = reservedAs t r ∷ []

@@ -2,7 +2,7 @@
 use Prim.Native.Nat.{ℕ, _^_, _≤_, _<_}
 use mathlib.Core.Path.{_≡_}
 use mathlib.Core.Bool.{Bool, true, false, cond}
-use mathlib.Core.List.{List, [], _∷_, _++_}
+use mathlib.Core.List.{List, [], _∷_, _++_, map}
 use mathlib.Core.Logic.{_⊎_}
 use mathlib.Core.Option.{Option, none, some}
 use lib.ListN.{length}
@@ -36,8 +36,7 @@ abbrev pub nodedRange : AddressRange → TaggedRange
 nodedRange e = record { range = e .range; tag = e .vnode }
 
 abbrev pub nodedRanges : List AddressRange → List TaggedRange
-nodedRanges [] = []
-nodedRanges (e ∷ es) = nodedRange e ∷ nodedRanges es
+nodedRanges = map nodedRange
 
 -- what a table says of a byte: its node, and what it is used for
 pub record Note : Type 0 where

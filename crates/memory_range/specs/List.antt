@@ -1,7 +1,7 @@
 -- Lists of ranges, as they are lent: a list for each field. Where the lists differ in length, the
 -- shortest one tells how many items there are (docs/SPEC.md, section 2).
 use Prim.Native.Nat.{ℕ}
-use mathlib.Core.List.{List, [], _∷_}
+use mathlib.Core.List.{List, [], _∷_, map}
 use lib.ListN.{take}
 use Rattle.memory_range.specs.declared.range.MemoryRange.{MemoryRange}
 use Rattle.memory_range.specs.declared.range.TaggedRange.{TaggedRange}
@@ -30,18 +30,14 @@ firstTagged k ss es ts = taggedOf (take k ss) (take k es) (take k ts)
 
 -- each field of tagged ranges as a list
 abbrev pub startsOf : List TaggedRange → List ℕ
-startsOf [] = []
-startsOf (x ∷ xs) = x .range .start ∷ startsOf xs
+startsOf = map (λ x. x .range .start)
 
 abbrev pub endsOf : List TaggedRange → List ℕ
-endsOf [] = []
-endsOf (x ∷ xs) = x .range .end ∷ endsOf xs
+endsOf = map (λ x. x .range .end)
 
 abbrev pub tagsOf : List TaggedRange → List ℕ
-tagsOf [] = []
-tagsOf (x ∷ xs) = x .tag ∷ tagsOf xs
+tagsOf = map (λ x. x .tag)
 
 -- the ranges of tagged ranges
 abbrev pub rangesIn : List TaggedRange → List MemoryRange
-rangesIn [] = []
-rangesIn (x ∷ xs) = x .range ∷ rangesIn xs
+rangesIn = map (λ x. x .range)

@@ -1,6 +1,6 @@
 -- The lists of a plan as lines (docs/SPEC.md, section 29).
 use Prim.Native.Nat.{ℕ}
-use mathlib.Core.List.{List, [], _∷_}
+use mathlib.Core.List.{List, [], _∷_, map}
 use lib.ListN.{getD}
 use Rattle.memory_range.specs.declared.range.TaggedRange.{TaggedRange}
 use Rattle.host_params.specs.declared.MemoryVtlType.{MemoryVtlType}
@@ -13,13 +13,11 @@ use Rattle.plan.specs.declared.line.OutputLine.the-variants.{Ram, Pool, 
 
 -- the chosen RAM, by start
 abbrev pub ramLines : List TaggedRange → List OutputLine
-ramLines [] = []
-ramLines (x ∷ xs) = Ram (x .range) (x .tag) ∷ ramLines xs
+ramLines = map (λ x. Ram (x .range) (x .tag))
 
 -- the pool's ranges, by node
 abbrev pub poolLines : List AllocatedRange → List OutputLine
-poolLines [] = []
-poolLines (x ∷ xs) = Pool (x .range) (x .vnode) ∷ poolLines xs
+poolLines = map (λ x. Pool (x .range) (x .vnode))
 
 -- the types by their numbers in a list of ranges
 abbrev pub types : List MemoryVtlType
@@ -39,8 +37,7 @@ abbrev pub typeOf : ℕ → MemoryVtlType
 typeOf number = getD types number vtl.Ram
 
 abbrev pub typedLines : List TaggedRange → List OutputLine
-typedLines [] = []
-typedLines (x ∷ xs) = Map (x .range) (typeOf (x .tag)) ∷ typedLines xs
+typedLines = map (λ x. Map (x .range) (typeOf (x .tag)))
 
 -- a table, by start: touching ranges of one type are joined
 abbrev pub mapLines : List AddressRange → List OutputLine

@@ -3,7 +3,7 @@
 use Prim.Native.Nat.{ℕ}
 use mathlib.Core.Path.{_≡_}
 use mathlib.Core.Bool.{Bool}
-use mathlib.Core.List.{List, [], _∷_, _++_}
+use mathlib.Core.List.{List, [], _∷_, _++_, map}
 use mathlib.Core.Option.{Option, none, some}
 use Rattle.memory_range.specs.declared.range.TaggedRange.{TaggedRange}
 use Rattle.memory_range.specs.Bytes.{All}
@@ -59,8 +59,7 @@ callsOf i ram bits = poolThen (pagesWanted (i .shape .isolation) (i .pool) (byte
 
 -- the lines of an answer: a line for each range of a pool; a line for a request, its range or its refusal
 abbrev pub gotLines : List AllocatedRange → List OutputLine
-gotLines [] = []
-gotLines (x ∷ xs) = answerLine (allocated.Range x) ∷ gotLines xs
+gotLines = map (λ x. answerLine (allocated.Range x))
 
 abbrev pub answerLines : Call → Answer → List OutputLine
 answerLines (request r) (refused n) = answerLine (allocated.Refused n) ∷ []

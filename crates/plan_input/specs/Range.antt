@@ -39,9 +39,7 @@ rangesFirst k rs = map rangeIn (wordsFirst k rs)
 
 -- the starts and the ends of ranges, as they are stored
 abbrev pub startsIn : List MemoryRange → List ℕ
-startsIn [] = []
-startsIn (r ∷ rs) = r .start ∷ startsIn rs
+startsIn = map (λ r. r .start)
 
 abbrev pub endsIn : List MemoryRange → List ℕ
-endsIn [] = []
-endsIn (r ∷ rs) = r .end ∷ endsIn rs
+endsIn = map (λ r. r .end)

@@ -104,7 +104,7 @@ optionalOf f = cond (sameBytes f absent) (some u64.None) (after (numberOf f) (λ
 
 -- a number as a node: at most ffffffff
 abbrev pub nodeFrom : ℕ → Option ℕ
-nodeFrom n = cond (leb n 4294967295) (some n) none
+nodeFrom n = cond (leb n 0xffffffff) (some n) none
 
 -- a node
 abbrev pub nodeOf : List ℕ → Option ℕ

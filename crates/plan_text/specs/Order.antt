@@ -25,8 +25,7 @@ placeOf (Pool x) = 12
 placeOf (Get x) = 13
 
 abbrev pub placesOf : List Record → List ℕ
-placesOf [] = []
-placesOf (r ∷ rs) = placeOf r ∷ placesOf rs
+placesOf = map placeOf
 
 -- how often each of the fourteen words may stand, in their order
 abbrev pub occurs : List Occurs

@@ -48,7 +48,7 @@ checkFrom k (some rs) = cond (ordered k rs) Accepted (Refused recordOrder)
 
 -- the most bytes that a text may have
 abbrev pub textSize : ℕ
-textSize = 65536
+textSize = 65_536
 
 -- rows 3, 1 and 2, in this order
 unfoldable pub textCheck : List ℕ → TextCheck

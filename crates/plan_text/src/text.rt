@@ -12,7 +12,7 @@ use plan_record::Record;
 use plan_record::read_line;
 
 // The most bytes that a text may have.
-pub const TEXT_SIZE: usize = 65536;
+pub const TEXT_SIZE: usize = 65_536;
 
 // The bytes of the longest line with its newline: `pool`, `pages`, three numbers of 16 digits, `y` or
 // `n`, and the byte behind each of the six. Behind so many no newline is looked for.

@@ -1,14 +1,13 @@
 -- The pieces of a split pool (docs/SPEC.md, section 26; document 01, Port order 6).
 use Prim.Native.Nat.{ℕ, suc, _-_, _/_}
-use mathlib.Core.List.{List, [], _∷_}
+use mathlib.Core.List.{List, [], _∷_, map}
 use lib.ListN.{length}
 use Rattle.address_space.specs.declared.table.AddressRange.{AddressRange}
 use Rattle.boot_nodes.specs.Node.{distinct}
 
 -- the nodes of entries
 abbrev pub vnodesOf : List AddressRange → List ℕ
-vnodesOf [] = []
-vnodesOf (e ∷ es) = e .vnode ∷ vnodesOf es
+vnodesOf = map (λ e. e .vnode)
 
 -- the nodes of a table: each once, ascending
 abbrev pub tableNodes : List AddressRange → List ℕ

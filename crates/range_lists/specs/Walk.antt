@@ -2,7 +2,7 @@
 -- every start and end of either list, and each piece tells which item of each list holds it.
 use Prim.Native.Nat.{ℕ, _+_, _/_, _%_}
 use mathlib.Core.Bool.{Bool, cond, _&&_}
-use mathlib.Core.List.{List, [], _∷_, _++_}
+use mathlib.Core.List.{List, [], _∷_, _++_, map}
 use mathlib.Core.Option.{Option, none, some}
 use lib.Dec.{leb, ltb, eqb}
 use lib.ListN.{length, drop}
@@ -31,8 +31,7 @@ mergeHead b rest (c ∷ cs) = cond (leb b c) (left b ∷ rest (c ∷ cs)) (right
 
 -- no left boundary is left
 abbrev pub allRight : List ℕ → List Boundary
-allRight [] = []
-allRight (c ∷ cs) = right c ∷ allRight cs
+allRight = map right
 
 -- the boundaries of both lists as one list, the lower one first, of two alike the left one
 abbrev pub mergeBoundaries : List ℕ → List ℕ → List Boundary

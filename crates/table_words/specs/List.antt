@@ -36,10 +36,8 @@ nodesGood (r ∷ rs) = ltb (getD r 2 0) (2 ^ 32) && nodesGood rs
 
 -- a word of each row
 abbrev pub column : ℕ → List (List ℕ) → List ℕ
-column j [] = []
-column j (r ∷ rs) = getD r j 0 ∷ column j rs
+column j = map (λ r. getD r j 0)
 
 -- the node of each row: the lowest 32 bits of its word
 abbrev pub nodeColumn : List (List ℕ) → List ℕ
-nodeColumn [] = []
-nodeColumn (r ∷ rs) = getD r 2 0 % 2 ^ 32 ∷ nodeColumn rs
+nodeColumn = map (λ r. getD r 2 0 % 2 ^ 32)

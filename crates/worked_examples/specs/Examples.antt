@@ -2,7 +2,7 @@
 use Prim.Native.Nat.{ℕ, _*_, _/_}
 use mathlib.Core.Path.{_≡_}
 use mathlib.Core.Bool.{true}
-use mathlib.Core.List.{List, [], _∷_}
+use mathlib.Core.List.{List, [], _∷_, map}
 use Rattle.host_params.specs.declared.Vtl2GpaPoolLookupTable.{Vtl2GpaPoolLookupTable}
 use Rattle.host_params.specs.declared.Vtl2GpaPoolLookupTable.the-variants.{Release, Debug}
 use Rattle.memory_range.specs.Range.{range, lengthOf}
@@ -65,8 +65,7 @@ overThree pages = poolPlaced pages true threeNodes
 
 -- what a placement tells: the pages of each range, or the refusal; none or 0 where there is none
 abbrev pub pagesOfEach : List AllocatedRange → List ℕ
-pagesOfEach [] = []
-pagesOfEach (x ∷ xs) = lengthOf (x .range) / pageSize ∷ pagesOfEach xs
+pagesOfEach = map (λ x. lengthOf (x .range) / pageSize)
 
 abbrev pub pagesPlaced : Placement → List ℕ
 pagesPlaced (placement.refused n) = []

@@ -1,13 +1,13 @@
 -- Laws of the lists that are reported: what a turn of each walk makes of the entry at the next index.
-use Prim.Native.Nat.{ℕ, suc, _+_, _≤_, _<_}
+use Prim.Native.Nat.{ℕ, _+_, _≤_, _<_}
 use mathlib.Core.Path.{_≡_, refl, ap, sym, _∙_}
 use mathlib.Core.Bool.{true, false, and-eq-true-iff}
-use mathlib.Core.List.{List, [], _∷_, _++_, append-assoc}
+use mathlib.Core.List.{List, [], _∷_, _++_, append-assoc, map-append}
 use native.Mathlib.Numerals.{add-one}
 use native.Mathlib.Omega.{arith}
 use borrow.Author.Tests.{eqb-true}
 use lib.Dec.{eqb}
-use lib.ListN.{length, take, drop, getD, set, length-take, length-set, drop-of-length-le}
+use lib.ListN.{length, take, drop, getD, set, length-take, length-set, drop-of-length-le, length-map}
 use lib.Seq.{drop-cons, getD-take, length-take-le, take-suc-set}
 use Rattle.memory_range.specs.declared.range.TaggedRange.{TaggedRange}
 use Rattle.memory_range.specs.List.{tagged}
@@ -52,12 +52,10 @@ module _ (m : AddressSpaceManager) (start end number next : ℕ) (below : next <
 
 -- ranges stored one behind the other
 numbered-append : (xs ys : List Vtl2Range) → numberedRanges (xs ++ ys) ≡ numberedRanges xs ++ numberedRanges ys
-numbered-append [] ys = refl
-numbered-append (x ∷ xs) ys = ap (λ (l : List TaggedRange). numberedRange x ∷ l) (numbered-append xs ys)
+numbered-append = map-append numberedRange
 
 numbered-length : (xs : List Vtl2Range) → length (numberedRanges xs) ≡ length xs
-numbered-length [] = refl
-numbered-length (x ∷ xs) = ap suc (numbered-length xs)
+numbered-length xs = length-map xs numberedRange
 
 module _ (l : List Vtl2Range) (k : ℕ) (x : Vtl2Range) (fits : k < length l) where
   stored : numberedRanges (take (k + 1) (set l k x)) ≡ numberedRanges (take k l) ++ numberedRange x ∷ []

@@ -2,7 +2,7 @@
 -- fields are written into three arrays are found again in the first places.
 use Prim.Native.Nat.{ℕ, suc, _+_, _≤_}
 use mathlib.Core.Path.{_≡_, refl, _∙_}
-use mathlib.Core.List.{List, [], _∷_, _++_}
+use mathlib.Core.List.{List, [], _∷_, _++_, map-append}
 use native.Mathlib.Numerals.{add-one}
 use native.Mathlib.Omega.{arith}
 use lib.ListN.{length, take, drop, set, length-set}
@@ -45,16 +45,13 @@ written-append k (x ∷ xs) ys l =
 
 -- each field of entries: one list's before another's
 pub starts-append : (xs ys : List TaggedRange) → startsOf (xs ++ ys) ≡ startsOf xs ++ startsOf ys
-starts-append [] ys = refl
-starts-append (x ∷ xs) ys = rw (starts-append xs ys)
+starts-append = map-append _
 
 pub ends-append : (xs ys : List TaggedRange) → endsOf (xs ++ ys) ≡ endsOf xs ++ endsOf ys
-ends-append [] ys = refl
-ends-append (x ∷ xs) ys = rw (ends-append xs ys)
+ends-append = map-append _
 
 pub tags-append : (xs ys : List TaggedRange) → tagsOf (xs ++ ys) ≡ tagsOf xs ++ tagsOf ys
-tags-append [] ys = refl
-tags-append (x ∷ xs) ys = rw (tags-append xs ys)
+tags-append = map-append _
 
 -- entries that are written into three arrays stand in the first places
 pub first-written : (xs : List TaggedRange) (ss es ts : List ℕ) → length xs ≤ length ss → length xs ≤ length es → length xs ≤ length ts

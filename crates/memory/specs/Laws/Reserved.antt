@@ -1,10 +1,10 @@
 -- Laws of the reserved ranges: how many they are, and that a list of them is made of its parts.
-use Prim.Native.Nat.{ℕ, suc, _+_, _≤_, _<_}
-use mathlib.Core.Path.{_≡_, refl, ap}
-use mathlib.Core.List.{List, [], _∷_, _++_, append-assoc}
+use Prim.Native.Nat.{ℕ, _+_, _≤_, _<_}
+use mathlib.Core.Path.{_≡_, refl}
+use mathlib.Core.List.{List, [], _∷_, _++_, append-assoc, map-append}
 use native.Mathlib.Omega.{arith}
 use native.Mathlib.Numerals.{add-one}
-use lib.ListN.{length, take, getD, set, length-append}
+use lib.ListN.{length, take, getD, set, length-append, length-map}
 use lib.Seq.{take-suc}
 use Rattle.memory_range.specs.declared.range.MemoryRange.{MemoryRange}
 use Rattle.memory_range.specs.declared.range.SplitRange.{SplitRange}
@@ -30,12 +30,10 @@ length-option t (Some r) = refl
 length-option t None = refl
 
 pub length-all : (t : ReservedMemoryType) (rs : List MemoryRange) → length (allAs t rs) ≡ length rs
-length-all t [] = refl
-length-all t (r ∷ rs) = ap suc (length-all t rs)
+length-all t rs = length-map rs (reservedAs t)
 
 pub as-append : (t : ReservedMemoryType) (rs ss : List MemoryRange) → allAs t (rs ++ ss) ≡ allAs t rs ++ allAs t ss
-as-append t [] ss = refl
-as-append t (r ∷ rs) ss = rw (as-append t rs ss)
+as-append t = map-append (reservedAs t)
 
 -- as many as there are optional ranges, and so at most four
 pub length-options : (b : AddressSpaceManagerBuilder)

@@ -6,7 +6,7 @@ use mathlib.Core.List.{List, [], _∷_, _++_}
 use native.Mathlib.Decide.{decLt}
 use native.Mathlib.Omega.{arith}
 use native.Mathlib.Numerals.{add-one}
-use lib.ListN.{length, take, drop, getD, length-take, drop-of-length-le}
+use lib.ListN.{length, take, drop, getD, length-take, drop-of-length-le, length-map}
 use lib.Seq.{take-all, drop-cons}
 use Rattle.memory_range.specs.declared.range.TaggedRange.{TaggedRange}
 use Rattle.memory_range.specs.Range.{range}
@@ -76,16 +76,13 @@ tags-tagged (s ∷ ss) (e ∷ es) (t ∷ ts) = ap (λ (l : List ℕ). t ∷ l) (
 
 -- each field of tagged ranges: as many as there are ranges, which are found again by all three
 pub length-starts : (xs : List TaggedRange) → length (startsOf xs) ≡ length xs
-length-starts [] = refl
-length-starts (x ∷ xs) = ap suc (length-starts xs)
+length-starts xs = length-map xs _
 
 pub length-ends : (xs : List TaggedRange) → length (endsOf xs) ≡ length xs
-length-ends [] = refl
-length-ends (x ∷ xs) = ap suc (length-ends xs)
+length-ends xs = length-map xs _
 
 pub length-tags : (xs : List TaggedRange) → length (tagsOf xs) ≡ length xs
-length-tags [] = refl
-length-tags (x ∷ xs) = ap suc (length-tags xs)
+length-tags xs = length-map xs _
 
 pub fields-tagged : (xs : List TaggedRange) → taggedOf (startsOf xs) (endsOf xs) (tagsOf xs) ≡ xs
 fields-tagged [] = refl

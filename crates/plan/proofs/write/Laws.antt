@@ -1,10 +1,10 @@
 -- Laws of the lists as they are written: how many lines there are, and what is left to write at a place of a list.
-use Prim.Native.Nat.{ℕ, suc, _+_, _≤_, _<_}
+use Prim.Native.Nat.{ℕ, _+_, _≤_, _<_}
 use mathlib.Core.Path.{_≡_, refl, ap, _∙_}
 use mathlib.Core.List.{List, [], _∷_}
 use native.Mathlib.Numerals.{add-one}
 use native.Mathlib.Omega.{arith}
-use lib.ListN.{length, take, drop, getD, drop-of-length-le}
+use lib.ListN.{length, take, drop, getD, drop-of-length-le, length-map}
 use lib.Seq.{drop-cons, getD-take, length-take-le}
 use Rattle.memory_range.specs.declared.range.TaggedRange.{TaggedRange}
 use Rattle.memory_range.specs.List.{firstTagged}
@@ -21,8 +21,7 @@ use Rattle.plan.specs.Write.{ramLines, poolLines, typeOf, typedLines}
 
 -- the RAM: k lines, the one at an index and those behind it, and none behind the last
 ram-length : (xs : List TaggedRange) → length (ramLines xs) ≡ length xs
-ram-length [] = refl
-ram-length (x ∷ xs) = ap suc (ram-length xs)
+ram-length xs = length-map xs _
 
 module _ (k : ℕ) (ss es ts : List ℕ) (enough : (k ≤ length ss) × (k ≤ length es) × (k ≤ length ts)) where
   pub ram-count : length (ramLines (firstTagged k ss es ts)) ≡ k
@@ -43,8 +42,7 @@ module _ (k : ℕ) (ss es ts : List ℕ) (enough : (k ≤ length ss) × (k ≤ l
 
 -- the pool's ranges likewise
 pool-length : (xs : List AllocatedRange) → length (poolLines xs) ≡ length xs
-pool-length [] = refl
-pool-length (x ∷ xs) = ap suc (pool-length xs)
+pool-length xs = length-map xs _
 
 module _ (k : ℕ) (xs : List AllocatedRange) (enough : k ≤ length xs) where
   pub pool-count : length (poolLines (take k xs)) ≡ k

@@ -1,7 +1,7 @@
 -- Laws of the pieces of a split pool: one for each node, whose pages are the pool's, and none of which is without a page.
 use Prim.Native.Nat.{ℕ, suc, _+_, _-_, _*_, _/_, _≤_, _<_}
 use mathlib.Core.Path.{_≡_, refl, ap}
-use mathlib.Core.List.{List, [], _∷_}
+use mathlib.Core.List.{List, [], _∷_, map}
 use native.Mathlib.Nat.{div-mul-le-self, div-le-self, le-div-iff-mul-le}
 use native.Mathlib.Omega.{arith}
 use lib.ListN.{length}
@@ -10,8 +10,7 @@ use Rattle.private_pool.specs.Piece.{PoolPiece, piecesFrom, splitPieces}
 
 -- the nodes of pieces, and their pages in all
 abbrev pub nodesOf : List PoolPiece → List ℕ
-nodesOf [] = []
-nodesOf (p ∷ ps) = p .node ∷ nodesOf ps
+nodesOf = map (λ p. p .node)
 
 abbrev pub pagesIn : List PoolPiece → ℕ
 pagesIn [] = 0

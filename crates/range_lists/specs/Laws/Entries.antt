@@ -3,7 +3,7 @@ use Prim.Native.Nat.{ℕ, zero, suc, _<_}
 use mathlib.Core.Path.{_≡_, refl, ap, _∙_}
 use mathlib.Core.List.{List, [], _∷_}
 use native.Mathlib.Omega.{arith}
-use lib.ListN.{length, take, getD}
+use lib.ListN.{length, take, getD, length-map}
 use Rattle.memory_range.specs.declared.range.MemoryRange.{MemoryRange}
 use Rattle.memory_range.specs.declared.range.TaggedRange.{TaggedRange}
 use Rattle.range_lists.specs.declared.walk.RangeWalkResult.{RangeWalkResult}
@@ -18,8 +18,7 @@ use Rattle.range_lists.specs.Walk.{walkFrom, walkStepped}
 use Rattle.range_lists.specs.Laws.Walk.{InLists, walk-items}
 
 pub length-ranges-in : (m : List TaggedRange) → length (rangesIn m) ≡ length m
-length-ranges-in [] = refl
-length-ranges-in (x ∷ xs) = ap suc (length-ranges-in xs)
+length-ranges-in xs = length-map xs _
 
 -- as many starts and ends as there are entries are the entries' ranges
 pub ranges-tagged : (ss es ts : List ℕ) → let n = length (taggedOf ss es ts) in rangesOf (take n ss) (take n es) ≡ rangesIn (taggedOf ss es ts)

@@ -4,7 +4,7 @@
 use Prim.Native.Nat.{ℕ, suc, _+_, _*_, _≤_, _<_}
 use mathlib.Core.Path.{_≡_, refl, sym, _∙_}
 use mathlib.Core.Bool.{Bool, true, false, cond, and-false}
-use mathlib.Core.List.{List, [], _∷_, _++_}
+use mathlib.Core.List.{List, [], _∷_, _++_, map}
 use mathlib.Core.Option.{Option, none, some}
 use native.Mathlib.Omega.{arith}
 use lib.Dec.{ltb}
@@ -21,8 +21,7 @@ use Rattle.memory_range.specs.Laws.Bytes.{ordered-before, counted, holders-cons
 use Rattle.range_lists.specs.Laws.Boundaries.{address, passed, passed-at, passed-before, Merged, done, nextLeft, nextRight, merged-none, open-past}
 
 abbrev pub pieceRanges : List WalkPiece → List MemoryRange
-pieceRanges [] = []
-pieceRanges (p ∷ ps) = p .range ∷ pieceRanges ps
+pieceRanges = map (λ p. p .range)
 
 -- what the first piece that holds the byte at a says
 abbrev pub resultAt : List WalkPiece → ℕ → Option RangeWalkResult

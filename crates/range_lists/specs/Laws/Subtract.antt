@@ -4,7 +4,7 @@
 use Prim.Native.Nat.{ℕ, _-_, _<_}
 use mathlib.Core.Path.{_≡_, refl, ap, ap₂, sym, _∙_}
 use mathlib.Core.Bool.{Bool, true, false, cond}
-use mathlib.Core.List.{List, [], _∷_, _++_}
+use mathlib.Core.List.{List, [], _∷_, _++_, map}
 use mathlib.Core.Option.{Option, none, some}
 use lib.ListN.{length}
 use Rattle.memory_range.specs.declared.range.MemoryRange.{MemoryRange}
@@ -22,8 +22,7 @@ use Rattle.range_lists.specs.Laws.Picked.{picked, countedIf, picked-orde
 use Rattle.range_lists.specs.Laws.Walk.{Says, InLists, walk-ordered, walk-says, walk-items}
 
 abbrev pub remainderRanges : List Remainder → List MemoryRange
-remainderRanges [] = []
-remainderRanges (r ∷ rs) = r .range ∷ remainderRanges rs
+remainderRanges = map (λ r. r .range)
 
 -- the part lies inside the item of the list that it names
 abbrev pub PartOf : List MemoryRange → Remainder → Type 0

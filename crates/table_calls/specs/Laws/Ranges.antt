@@ -1,15 +1,15 @@
 -- Laws of a table's ranges: those from an index on, as they are handed out, and how many there are.
-use Prim.Native.Nat.{ℕ, suc, _+_, _<_, _≤_}
-use mathlib.Core.Path.{_≡_, refl, ap, _∙_}
+use Prim.Native.Nat.{ℕ, _+_, _<_, _≤_}
+use mathlib.Core.Path.{_≡_, ap, _∙_}
 use mathlib.Core.List.{List, [], _∷_}
 use native.Mathlib.Numerals.{add-one}
 use native.Mathlib.Omega.{arith}
-use lib.ListN.{length, take, drop, getD, drop-of-length-le}
+use lib.ListN.{length, take, drop, getD, drop-of-length-le, length-map}
 use lib.Seq.{drop-cons, getD-take, length-take-le}
 use Rattle.range_lists.specs.Laws.Merge.{merge-count}
 use Rattle.address_space.specs.declared.list.Vtl2Range.{Vtl2Range}
 use Rattle.address_space.specs.declared.table.AddressRange.{AddressRange}
-use Rattle.address_space.specs.List.{numberedRange, numberedRanges, typedRanges, vtl2Ranges}
+use Rattle.address_space.specs.List.{numberedRange, numberedRanges, typedRanges, vtl2Ranges, typedRange}
 
 -- the first ranges of an array
 module _ (k : ℕ) (xs : List Vtl2Range) (enough : k ≤ length xs) (i : ℕ) where
@@ -23,8 +23,7 @@ module _ (k : ℕ) (xs : List Vtl2Range) (enough : k ≤ length xs) (i : ℕ) wh
   range-none h = ap numberedRanges (drop-of-length-le (take k xs) {i = i} (omega (arith, length-take-le k xs enough)))
 
 typed-count : (es : List AddressRange) → length (typedRanges es) ≡ length es
-typed-count [] = refl
-typed-count (e ∷ es) = ap suc (typed-count es)
+typed-count es = length-map es typedRange
 
 pub ranges-few : (es : List AddressRange) → length (vtl2Ranges es) ≤ length es
 ranges-few es = omega (arith, merge-count (typedRanges es), typed-count es)

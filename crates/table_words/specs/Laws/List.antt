@@ -1,13 +1,13 @@
 -- Laws of lists as words: the row at an index by its words, and what arrays hold that the columns are stored in.
-use Prim.Native.Nat.{ℕ, suc, _+_, _*_, _%_, _<_, _≤_, _^_}
-use mathlib.Core.Path.{_≡_, refl, ap, _∙_}
+use Prim.Native.Nat.{ℕ, _+_, _*_, _%_, _<_, _≤_, _^_}
+use mathlib.Core.Path.{_≡_, refl, _∙_}
 use mathlib.Core.Bool.{true, _&&_, and-eq-true-iff}
 use mathlib.Core.List.{List, [], _∷_, map}
 use native.Mathlib.Nat.{mod-eq-of-lt}
 use native.Mathlib.Omega.{arith}
 use borrow.Author.Tests.{ltb-true}
 use lib.Dec.{ltb}
-use lib.ListN.{length, take, drop, getD}
+use lib.ListN.{length, take, drop, getD, length-map}
 use lib.Seq.{sets, sets-eq, getD-take, getD-drop, take-append-seam}
 use Rattle.memory_range.specs.List.{rangesOf, taggedOf}
 use Rattle.table_words.specs.List.{rangeIn, ramIn, nodesGood, column, nodeColumn}
@@ -32,8 +32,7 @@ pub next-node : (k i : ℕ) (ws : List ℕ) → i < k
 next-node k i ws h = rw (next-row 3 k ws i h, row-word 3 i 2 ws (omega arith))
 
 pub length-column : (j : ℕ) (rs : List (List ℕ)) → length (column j rs) ≡ length rs
-length-column j [] = refl
-length-column j (r ∷ rs) = ap suc (length-column j rs)
+length-column j rs = length-map rs _
 
 -- words that are nodes are their own lowest 32 bits
 pub good-nodes : (rs : List (List ℕ)) → nodesGood rs ≡ true → nodeColumn rs ≡ column 2 rs
