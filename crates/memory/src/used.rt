@@ -183,9 +183,8 @@ pub(crate) fn list_used<'a>(
     if !ranges_ascend(&reserved_starts[..reserved], &reserved_ends[..reserved]) {
         return Counted::Refused(RESERVED_OVERLAP);
     }
-    let used = builder.bootshim_used;
     match walk_used(
-        used,
+        builder.bootshim_used,
         &reserved_starts[..reserved],
         &reserved_ends[..reserved],
         &reserved_tags[..reserved],
@@ -201,7 +200,7 @@ pub(crate) fn list_used<'a>(
             ends,
             tags,
             pieces,
-            used,
+            builder.bootshim_used,
         ),
     }
 }

@@ -85,13 +85,13 @@ few s =
 
 walk-used-requires : tie.Need-walk-used-requires
 walk-used-requires c κs =
-    let r = c .before .before .before .before .before .before .before .before in
+    let r = c .before .before .before .before .before .before .before in
     let s = entry (list (sort r)) in
     (rw (sorted (sort r) .found) (few s), s .pre .1 .1 .1 .1)
 
 -- the walk answers by row 19, and puts the pieces of the used range
 abbrev ascending : tie.After-walk-used → tie.Else1
-ascending w = w .before .before .before .before .before .before .before .before
+ascending w = w .before .before .before .before .before .before .before
 
 walked : (w : tie.After-walk-used)
     → let s = start (ascending w) in
@@ -172,12 +172,12 @@ list-used-spec =
     (λ c. sym (length-take-le _ _ (sorted (c .before .before .before .before .before) .room .1)))
     (λ c κs. search needs)
     returns
-    (λ c. sorted (c .before .before .before .before .before .before .before .before) .room .0)
-    (λ c. sym (length-take-le _ _ (sorted (c .before .before .before .before .before .before .before .before .before) .room .0)))
-    (λ c. sorted (c .before .before .before .before .before .before .before .before .before) .room .1)
-    (λ c. sym (length-take-le _ _ (sorted (c .before .before .before .before .before .before .before .before .before .before) .room .1)))
-    (λ c. sorted (c .before .before .before .before .before .before .before .before .before .before) .room .2)
-    (λ c. sym (length-take-le _ _ (sorted (c .before .before .before .before .before .before .before .before .before .before .before) .room .2)))
+    (λ c. sorted (c .before .before .before .before .before .before .before) .room .0)
+    (λ c. sym (length-take-le _ _ (sorted (c .before .before .before .before .before .before .before .before) .room .0)))
+    (λ c. sorted (c .before .before .before .before .before .before .before .before) .room .1)
+    (λ c. sym (length-take-le _ _ (sorted (c .before .before .before .before .before .before .before .before .before) .room .1)))
+    (λ c. sorted (c .before .before .before .before .before .before .before .before .before) .room .2)
+    (λ c. sym (length-take-le _ _ (sorted (c .before .before .before .before .before .before .before .before .before .before) .room .2)))
     walk-used-requires
     (λ c. search needs)
     (λ c. search needs)
