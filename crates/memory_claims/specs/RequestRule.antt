@@ -36,10 +36,10 @@ abbrev pub GoodAlignment : OptionU64 → Type 0
 GoodAlignment (number-or-none.Some m) = (k : ℕ) × (k < 64) × (m ≡ 2 ^ k)
 GoodAlignment number-or-none.None = Unit {0}
 
--- the entries that the policy looks at before the one between these
-abbrev pub lookedAt : AllocationPolicy → List AddressRange → List AddressRange → List AddressRange
-lookedAt LowMemory below above = below
-lookedAt HighMemory below above = above
+-- the entries that are looked at before the one between these: low begins at the bottom, high at the top
+abbrev pub seenBefore : AllocationPolicy → List AddressRange → List AddressRange → List AddressRange
+seenBefore LowMemory below above = below
+seenBefore HighMemory below above = above
 
 -- how many entries a split around the range that an entry gives adds to the table
 abbrev pub addedBy : ℕ → AllocationPolicy → OptionU64 → AddressRange → ℕ
@@ -52,14 +52,16 @@ module _ (asked : OptionU32) (len : ℕ) (policy : AllocationPolicy) (alignment 
   abbrev pub FirstFit : List AddressRange → AddressRange → List AddressRange → Type 0
   FirstFit below e above =
       let fits = fitsIn asked (roundUp pageSize len) alignment in
-      (es ≡ below ++ e ∷ above) × (fits e ≡ true) × All (λ y. fits y ≡ false) (lookedAt policy below above)
+      (es ≡ below ++ e ∷ above) × (fits e ≡ true) × All (λ y. fits y ≡ false) (seenBefore policy below above)
 
   abbrev pub RequestRule : RequestRow → Type 0
   RequestRule row22 = 0 < len
   RequestRule row23 = len ≤ 2 ^ 64 - pageSize
   RequestRule row24 = GoodAlignment alignment
   -- some entry fits
-  RequestRule row25 = (below : List AddressRange) × (e : AddressRange) × (above : List AddressRange) × (es ≡ below ++ e ∷ above) × (fitsIn asked (roundUp pageSize len) alignment e ≡ true)
+  RequestRule row25 =
+      (below : List AddressRange) × (e : AddressRange) × (above : List AddressRange)
+      × (es ≡ below ++ e ∷ above) × (fitsIn asked (roundUp pageSize len) alignment e ≡ true)
   -- the first one that fits can be split within a table
   RequestRule row26 =
       (below : List AddressRange) (e : AddressRange) (above : List AddressRange) → FirstFit below e above

@@ -37,7 +37,7 @@ use Rattle.address_space.specs.Laws.Request.{requested-refused}
 use Rattle.address_space.specs.Laws.Search.{found-in-table, found-fits, lowest-fit, highest-fit, low-found, high-found}
 use Rattle.address_space.specs.Laws.Split.{split-length}
 use Rattle.memory_claims.specs.Claim.{Of64Bits}
-use Rattle.memory_claims.specs.RequestRule.{RequestRow, row22, row23, row24, row25, row26, number, GoodAlignment, lookedAt, addedBy, FirstFit, RequestRule, RequestKept, RequestBroken}
+use Rattle.memory_claims.specs.RequestRule.{RequestRow, row22, row23, row24, row25, row26, number, GoodAlignment, seenBefore, addedBy, FirstFit, RequestRule, RequestKept, RequestBroken}
 use Rattle.memory_claims.specs.Laws.Request.{allocated-no-fit, passed-rows, rows-passed}
 
 -- the numbers of the rows are 22 to 26, each of one row
@@ -65,12 +65,12 @@ good-alignment number-or-none.None bits = (λ _. tt, λ _. refl)
 
 -- the search looks at no entry that fits before the one that it finds, and finds the first that does
 none-looked-at : (policy : AllocationPolicy) (f : AddressRange → Bool) (es before : List AddressRange) (e : AddressRange) (after : List AddressRange)
-    → searched policy f es ≡ found before e after → All (λ y. f y ≡ false) (lookedAt policy (belowIn policy before after) (aboveIn policy before after))
+    → searched policy f es ≡ found before e after → All (λ y. f y ≡ false) (seenBefore policy (belowIn policy before after) (aboveIn policy before after))
 none-looked-at LowMemory f es before e after h = lowest-fit f es before e after h
 none-looked-at HighMemory f es before e after h = highest-fit f es before e after h
 
 first-placed : (len : ℕ) (type : AllocationType) (policy : AllocationPolicy) (alignment : OptionU64) (f : AddressRange → Bool)
-    (below : List AddressRange) (e : AddressRange) (above : List AddressRange) → f e ≡ true → All (λ y. f y ≡ false) (lookedAt policy below above)
+    (below : List AddressRange) (e : AddressRange) (above : List AddressRange) → f e ≡ true → All (λ y. f y ≡ false) (seenBefore policy below above)
     → placedFrom len type policy alignment (searched policy f (below ++ e ∷ above)) ≡ placed len type policy alignment below e above
 first-placed len type LowMemory alignment f below e above g h = rw (low-found f below e above g h)
 first-placed len type HighMemory alignment f below e above g h = rw (high-found f below e above g h, reverse-reverse below, reverse-reverse above)
