@@ -7,3 +7,4 @@ pub mod Power
 pub mod Range
 pub mod Round
 pub mod Valid
+pub mod Wrong
