@@ -8,3 +8,4 @@ pub mod Pieces
 pub mod Sort
 pub mod Subtract
 pub mod Walk
+pub mod Wrong
