@@ -2,3 +2,4 @@
 pub mod Cut
 pub mod Number
 pub mod Word
+pub mod Wrong
