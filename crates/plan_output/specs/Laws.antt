@@ -2,3 +2,4 @@
 pub mod Number
 pub mod Put
 pub mod Line
+pub mod Wrong
