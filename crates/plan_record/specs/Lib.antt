@@ -1,2 +1,3 @@
 pub mod Value
 pub mod Record
+pub mod Laws

@@ -1,0 +1,2 @@
+-- Wrong answers, refuted.
+pub mod Wrong
