@@ -4,3 +4,4 @@ pub mod Lookup
 pub mod Ratio
 pub mod Pages
 pub mod Hint
+pub mod Wrong
