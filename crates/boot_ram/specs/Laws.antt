@@ -1,5 +1,5 @@
--- Laws of the walks of boot selection. File and Import say what the definitions mean; the others are steps to
--- them and to the proofs, and serve the parts that come after.
+-- Laws of the walks of boot selection. File and Import say what the definitions mean, and Wrong what they do not;
+-- the others are steps to them and to the proofs, and serve the parts that come after.
 pub mod Answer
 pub mod ByNode
 pub mod File
@@ -10,3 +10,4 @@ pub mod Paged
 pub mod Verdict
 pub mod Walks
 pub mod Written
+pub mod Wrong

@@ -13,3 +13,4 @@ pub mod Rule
 pub mod RuleOrder
 pub mod RuleTests
 pub mod Select
+pub mod Wrong
