@@ -4,3 +4,4 @@ pub mod Search
 pub mod Split
 pub mod List
 pub mod Request
+pub mod Wrong

@@ -6,3 +6,4 @@ pub mod Count
 pub mod Walked
 pub mod Overlap
 pub mod Build
+pub mod Wrong

@@ -16,3 +16,4 @@ pub mod Example
 pub mod Kept
 pub mod BuildRule
 pub mod RequestRule
+pub mod Wrong

@@ -2,3 +2,4 @@
 pub mod Piece
 pub mod Handed
 pub mod Pool
+pub mod Wrong
