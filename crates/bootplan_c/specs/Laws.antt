@@ -2,3 +2,4 @@ pub mod Build
 pub mod Pool
 pub mod Ranges
 pub mod Request
+pub mod Wrong

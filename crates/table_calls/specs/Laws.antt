@@ -1,3 +1,4 @@
 pub mod Build
 pub mod Ranges
 pub mod Request
+pub mod Wrong

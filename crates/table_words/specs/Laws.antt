@@ -3,3 +3,4 @@ pub mod List
 pub mod Rows
 pub mod Stores
 pub mod Table
+pub mod Wrong

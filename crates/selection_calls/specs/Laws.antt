@@ -1,0 +1,2 @@
+-- Laws of selection by words.
+pub mod Wrong
