@@ -7,3 +7,4 @@ pub mod Few
 pub mod Planner
 pub mod Selected
 pub mod Read
+pub mod Wrong

@@ -3,3 +3,4 @@ pub mod Record
 pub mod Input
 pub mod Room
 pub mod Stores
+pub mod Wrong
