@@ -1,41 +1,64 @@
 //! The file of stored answers that the program `cases` replays: the original's, for a fixed list of
-//! inputs. A line is a series of inputs a step apart, or one alone, with its answers; equal answers that
-//! follow one another are written once with their number.
+//! inputs. A line is a series of inputs a step apart, or one alone, with its answers; runs of words in
+//! even steps are written short, as `cases` reads them.
 
 use crate::ROWS;
 use crate::random::Random;
 use crate::sizing::{BOUND, Input, MIB, PoolInput};
 
-/// Pairs of an answer and how often it follows itself that fit on a line.
-const PAIRS: usize = 40;
+/// Answers that are not the one before that fit on a line.
+const RUNS: usize = 40;
+
+/// Words, with those that follow in even steps behind two rows of a width, or behind four, written short.
+fn written(words: &[u64], width: usize) -> String {
+    let follows = |at: usize, back: usize| {
+        let (last, before) = (words[at - back], words[at - 2 * back]);
+        words[at] == last.wrapping_add(last.wrapping_sub(before))
+    };
+    let mut out = Vec::new();
+    let mut at = 0;
+    while at < words.len() {
+        let run = |back: usize| match at < 2 * back {
+            true => 0,
+            false => (at..words.len()).take_while(|&i| follows(i, back)).count() / width * width,
+        };
+        let (one, two) = (run(width), run(2 * width));
+        if one.max(two) >= 4 {
+            let back = if one >= two { width } else { 2 * width };
+            out.push(format!("~{back:x}*{:x}", one.max(two)));
+            at += one.max(two);
+        } else {
+            out.extend(words[at..at + width].iter().map(|word| format!("{word:x}")));
+            at += width;
+        }
+    }
+    out.join(" ")
+}
 
 /// Writes the answers to `inputs` inputs, each a step after the one before it.
 fn series(first: Input, vp_step: u64, mem_step: u64, inputs: u64) {
     let mut at = first;
     let mut left = inputs;
     while left > 0 {
-        let start = at;
-        let mut pairs: Vec<(u64, u64)> = Vec::new();
-        let mut taken = 0;
-        while taken < left {
+        let mut given: Vec<u64> = Vec::new();
+        let mut stored: Vec<u64> = Vec::new();
+        let mut runs = 0;
+        while (stored.len() as u64) < left {
             let pages = at.original();
-            if pairs.last().is_none_or(|last| last.0 != pages) {
-                if pairs.len() == PAIRS {
+            if stored.last() != Some(&pages) {
+                if runs == RUNS {
                     break;
                 }
-                pairs.push((pages, 0));
+                runs += 1;
             }
-            pairs.last_mut().unwrap().1 += 1;
+            given.extend([at.vp_count, at.mem_size]);
+            stored.push(pages);
             at.vp_count = at.vp_count.wrapping_add(vp_step);
             at.mem_size = at.mem_size.wrapping_add(mem_step);
-            taken += 1;
         }
-        print!("{start} {vp_step:x} {mem_step:x} {taken:x} =");
-        for (pages, times) in pairs {
-            print!(" {pages:x} {times:x}");
-        }
-        println!();
-        left -= taken;
+        let table = if first.debug { "debug" } else { "release" };
+        println!("{table} {} = {}", written(&given, 2), written(&stored, 1));
+        left -= stored.len() as u64;
     }
 }
 
@@ -48,10 +71,8 @@ fn input(debug: bool, vp_count: u64, mem_size: u64) -> Input {
 }
 
 pub fn write() {
-    println!(
-        "# Answers of the original Rust, written by `oracle stored`. Numbers are hexadecimal."
-    );
-    println!("# TABLE COUNT BYTES STEP-OF-COUNT STEP-OF-BYTES INPUTS = PAGES TIMES PAGES TIMES ..");
+    println!("# Answers of the original Rust, written by `oracle stored`.");
+    println!("# TABLE COUNT BYTES COUNT BYTES .. = PAGES PAGES ..");
     println!(
         "# P1 to P7, memory compared modulo 65,536 MiB, and the first size that is not looked up"
     );

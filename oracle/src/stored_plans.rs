@@ -10,18 +10,18 @@ use std::path::Path;
 /// A line of the file has to fit in a block of 65,536 bytes.
 const MOST_LINE: usize = 60_000;
 /// Random plans are short ones, so that many fit.
-const MOST_RANDOM: usize = 1_000;
+const MOST_RANDOM: usize = 1_002;
 
 /// A text as a word of a data file.
 fn word(text: &[u8]) -> String {
-    let mut word = String::new();
+    let mut word = String::from("\"");
     for byte in text {
         match byte {
             b'\n' => word.push_str("\\n"),
             b'\t' => word.push_str("\\t"),
             b'\\' => word.push_str("\\\\"),
             b'!'..=b'~' => word.push(char::from(*byte)),
-            _ => word.push_str(&format!("\\x{byte:02x}")),
+            _ => word.push_str(&format!("\\x{byte:x};")),
         }
     }
     word

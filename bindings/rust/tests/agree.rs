@@ -13,36 +13,35 @@ const STORED: [&str; 6] = [
     include_str!("../../../crates/cases/data/plans_table.txt"),
 ];
 
-/// The bytes of a stored text; plans.txt says how it is written.
+/// The bytes of a stored text; crates/cases/src/line.rt says how it is written.
 fn unescaped(stored: &str) -> Vec<u8> {
-    let digits = |from: &str, count: usize| usize::from_str_radix(&from[..count], 16).unwrap();
+    let number = |digits: &str| usize::from_str_radix(digits, 16).unwrap();
     let mut bytes: Vec<u8> = Vec::new();
-    let mut parts = stored.split('\\');
-    bytes.extend(parts.next().unwrap().bytes());
-    while let Some(part) = parts.next() {
-        let (used, byte) = match part.bytes().next() {
-            Some(b'n') => (1, b'\n'),
-            Some(b't') => (1, b'\t'),
-            Some(b'x') => (3, digits(&part[1..], 2) as u8),
-            Some(b'r') => {
-                let at = bytes.iter().rposition(|&b| b == b'\n').unwrap_or(0);
-                let from = bytes[..at].iter().rposition(|&b| b == b'\n');
-                let from = from.map_or(0, |newline| newline + 1);
-                for i in 0..digits(&part[1..], 5) {
-                    bytes.push(bytes[from + i]);
-                }
-                bytes.extend(part[6..].bytes());
-                continue;
-            }
+    let mut rest = stored.strip_prefix('"').unwrap();
+    while let Some((plain, escaped)) = rest.split_once('\\') {
+        bytes.extend(plain.bytes());
+        let (kind, behind) = escaped.split_at(1);
+        rest = behind;
+        match kind {
+            "n" => bytes.push(b'\n'),
+            "t" => bytes.push(b'\t'),
+            "\\" => bytes.push(b'\\'),
             _ => {
-                bytes.push(b'\\');
-                bytes.extend(parts.next().unwrap().bytes());
-                continue;
+                let (numbers, behind) = rest.split_once(';').unwrap();
+                rest = behind;
+                match numbers.split_once('*') {
+                    None => bytes.push(number(numbers) as u8),
+                    Some((back, count)) => {
+                        let from = bytes.len() - number(back);
+                        for i in 0..number(count) {
+                            bytes.push(bytes[from + i]);
+                        }
+                    }
+                }
             }
-        };
-        bytes.push(byte);
-        bytes.extend(part[used..].bytes());
+        }
     }
+    bytes.extend(rest.bytes());
     bytes
 }
 

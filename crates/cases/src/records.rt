@@ -1,7 +1,7 @@
-// A record as numbers: the place of its word, then its values.
-use super::case::Numbers;
-use super::ranges::number;
-use super::ranges::with_range;
+// A record as words: the place of its first field among the fourteen, then its values, a word by its place
+// among those of its field, but 1 for `p` and 0 for `o`. A value that may be absent has 1 in front, or is 0
+// with 0 in front.
+use super::words::Row;
 use host_params::AllocationPolicy;
 use host_params::AllocationType;
 use host_params::IsolationType;
@@ -18,140 +18,150 @@ use plan_record::Pool;
 use plan_record::Record;
 use plan_record::Shape;
 
-// 1 and the number, or 0.
-fn with_optional(numbers: Numbers, value: OptionU64) -> Numbers {
+// Whether a value is given, and the value.
+struct Value(u64, u64);
+
+fn optional(value: OptionU64) -> Value {
     match value {
-        OptionU64::Some(n) => numbers.with(1).with(n),
-        OptionU64::None => numbers.with(0),
+        OptionU64::None => Value(0, 0),
+        OptionU64::Some(n) => Value(1, n),
     }
 }
 
-fn with_optional_node(numbers: Numbers, node: OptionU32) -> Numbers {
-    match node {
-        OptionU32::Some(n) => numbers.with(1).with(n as u64),
-        OptionU32::None => numbers.with(0),
-    }
-}
-
-// A word by its place among those of its field.
-fn mode_place(mode: MemoryAllocationMode) -> u64 {
-    match mode {
+fn shape_row(shape: Shape) -> Row {
+    let mode = shape.mode;
+    let isolation = shape.isolation;
+    let size = shape.memory_size;
+    let size = optional(size);
+    let mode = match mode {
         MemoryAllocationMode::Host => 0,
         MemoryAllocationMode::Vtl2 => 1,
-    }
-}
-
-fn isolation_place(isolation: IsolationType) -> u64 {
-    match isolation {
+    };
+    let isolation = match isolation {
         IsolationType::None => 0,
         IsolationType::Vbs => 1,
         IsolationType::Snp => 2,
         IsolationType::Tdx => 3,
         IsolationType::Cca => 4,
+    };
+    Row {
+        values: [0, mode, isolation, size.0, size.1, 0, 0, 0],
+        count: 5,
     }
 }
 
-fn entry_type_place(entry_type: MemoryMapEntryType) -> u64 {
-    match entry_type {
-        MemoryMapEntryType::Vtl2Protectable => 0,
-        MemoryMapEntryType::Memory => 1,
+fn range_row(place: u64, range: MemoryRange) -> Row {
+    Row {
+        values: [place, range.start, range.end, 0, 0, 0, 0, 0],
+        count: 3,
     }
 }
 
-fn policy_place(policy: AllocationPolicy) -> u64 {
-    match policy {
+fn mem_row(entry: MemoryEntry) -> Row {
+    let range = entry.range;
+    let mem_type = entry.mem_type;
+    let is_protectable = match mem_type {
+        MemoryMapEntryType::Memory => 0,
+        MemoryMapEntryType::Vtl2Protectable => 1,
+    };
+    Row {
+        values: [
+            2,
+            range.start,
+            range.end,
+            entry.vnode as u64,
+            is_protectable,
+            0,
+            0,
+            0,
+        ],
+        count: 5,
+    }
+}
+
+// The place of the kind, and the pages.
+fn kind(config: Vtl2GpaPoolConfig) -> Value {
+    match config {
+        Vtl2GpaPoolConfig::Off => Value(0, 0),
+        Vtl2GpaPoolConfig::Pages(pages) => Value(1, pages),
+        Vtl2GpaPoolConfig::Heuristics(table) => {
+            match table {
+                Vtl2GpaPoolLookupTable::Release => Value(2, 0),
+                Vtl2GpaPoolLookupTable::Debug => Value(3, 0),
+            }
+        }
+    }
+}
+
+fn pool_row(pool: Pool) -> Row {
+    let config = pool.config;
+    let host_pages = pool.host_pages;
+    let kind = kind(config);
+    let host = optional(host_pages);
+    Row {
+        values: [
+            12,
+            kind.0,
+            kind.1,
+            host.0,
+            host.1,
+            pool.processors,
+            pool.split as u64,
+            0,
+        ],
+        count: 7,
+    }
+}
+
+fn get_row(get: Get) -> Row {
+    let vnode = get.required_vnode;
+    let policy = get.allocation_policy;
+    let allocation_type = get.allocation_type;
+    let alignment = get.alignment;
+    let alignment = optional(alignment);
+    let vnode = match vnode {
+        OptionU32::None => Value(0, 0),
+        OptionU32::Some(node) => Value(1, node as u64),
+    };
+    let policy = match policy {
         AllocationPolicy::LowMemory => 0,
         AllocationPolicy::HighMemory => 1,
-    }
-}
-
-fn kind_place(kind: AllocationType) -> u64 {
-    match kind {
+    };
+    let allocation_type = match allocation_type {
         AllocationType::GpaPool => 0,
         AllocationType::SidecarNode => 1,
         AllocationType::TdxPageTables => 2,
+    };
+    Row {
+        values: [
+            13,
+            vnode.0,
+            vnode.1,
+            get.len,
+            policy,
+            allocation_type,
+            alignment.0,
+            alignment.1,
+        ],
+        count: 8,
     }
 }
 
-fn with_table(numbers: Numbers, table: Vtl2GpaPoolLookupTable) -> Numbers {
-    match table {
-        Vtl2GpaPoolLookupTable::Release => numbers.with(2),
-        Vtl2GpaPoolLookupTable::Debug => numbers.with(3),
-    }
-}
-
-// The place of the kind, and the pages where it has some.
-fn with_config(numbers: Numbers, config: Vtl2GpaPoolConfig) -> Numbers {
-    match config {
-        Vtl2GpaPoolConfig::Off => numbers.with(0),
-        Vtl2GpaPoolConfig::Pages(pages) => numbers.with(1).with(pages),
-        Vtl2GpaPoolConfig::Heuristics(table) => with_table(numbers, table),
-    }
-}
-
-fn with_shape(numbers: Numbers, shape: Shape) -> Numbers {
-    let mode = shape.mode;
-    let isolation = shape.isolation;
-    let size = shape.memory_size;
-    with_optional(
-        numbers
-            .with(0)
-            .with(mode_place(mode))
-            .with(isolation_place(isolation)),
-        size,
-    )
-}
-
-fn with_entry(numbers: Numbers, entry: MemoryEntry) -> Numbers {
-    let range = entry.range;
-    let entry_type = entry.mem_type;
-    with_numbered(numbers, 2, range)
-        .with(entry.vnode as u64)
-        .with(entry_type_place(entry_type))
-}
-
-fn with_pool(numbers: Numbers, pool: Pool) -> Numbers {
-    let config = pool.config;
-    let host_pages = pool.host_pages;
-    with_optional(with_config(numbers.with(12), config), host_pages)
-        .with(pool.processors)
-        .with(number(pool.split))
-}
-
-fn with_get(numbers: Numbers, get: Get) -> Numbers {
-    let node = get.required_vnode;
-    let policy = get.allocation_policy;
-    let kind = get.allocation_type;
-    let alignment = get.alignment;
-    with_optional(
-        with_optional_node(numbers.with(13), node)
-            .with(get.len)
-            .with(policy_place(policy))
-            .with(kind_place(kind)),
-        alignment,
-    )
-}
-
-// A record that is a range: its number and the range.
-fn with_numbered(numbers: Numbers, record: u64, range: MemoryRange) -> Numbers {
-    with_range(numbers.with(record), range)
-}
-
-pub(crate) fn with_record(numbers: Numbers, found: Record) -> Numbers {
-    match found {
-        Record::Shape(shape) => with_shape(numbers, shape),
-        Record::File(range) => with_numbered(numbers, 1, range),
-        Record::Mem(entry) => with_entry(numbers, entry),
-        Record::Import(range) => with_numbered(numbers, 3, range),
-        Record::Used(range) => with_numbered(numbers, 4, range),
-        Record::State(range) => with_numbered(numbers, 5, range),
-        Record::Config(range) => with_numbered(numbers, 6, range),
-        Record::Keep(range) => with_numbered(numbers, 7, range),
-        Record::Side(range) => with_numbered(numbers, 8, range),
-        Record::Tables(range) => with_numbered(numbers, 9, range),
-        Record::Log(range) => with_numbered(numbers, 10, range),
-        Record::Gpool(range) => with_numbered(numbers, 11, range),
-        Record::Pool(pool) => with_pool(numbers, pool),
-        Record::Get(get) => with_get(numbers, get),
+pub(crate) fn record_row(record: Record) -> Row {
+    match record {
+        Record::Shape(shape) => shape_row(shape),
+        Record::File(range) => range_row(1, range),
+        Record::Mem(entry) => mem_row(entry),
+        Record::Import(range) => range_row(3, range),
+        Record::Used(range) => range_row(4, range),
+        Record::State(range) => range_row(5, range),
+        Record::Config(range) => range_row(6, range),
+        Record::Keep(range) => range_row(7, range),
+        Record::Side(range) => range_row(8, range),
+        Record::Tables(range) => range_row(9, range),
+        Record::Log(range) => range_row(10, range),
+        Record::Gpool(range) => range_row(11, range),
+        Record::Pool(pool) => pool_row(pool),
+        Record::Get(get) => get_row(get),
     }
 }

@@ -1,78 +1,54 @@
-// Selections. A list of entries is written as runs of seven numbers: start, length, step, count, node,
-// step of the node, and 1 where its entries are protectable. Entry i of a run starts i steps
-// behind the first one.
-use super::case::Case;
-use super::case::Numbers;
-use super::case::at;
-use super::case::low_32_bits;
-use super::case::optional;
-use super::case::part;
-use super::case::same_nodes;
-use super::case::same_numbers;
-use super::case::tag_part;
-use super::entries::ENTRIES;
-use super::entries::Lists;
-use super::ranges::number;
+// Selections. An entry of a map is four words: start, end, node, and 1 where it is protectable.
+use super::kinds::optional;
+use super::line::Case;
+use super::ranges::range;
+use super::words::First;
+use super::words::Row;
+use super::words::end_of;
+use super::words::first_words;
+use super::words::low_32_bits;
+use super::words::one;
+use super::words::row_at;
+use super::words::same_row;
+use super::words::three;
+use super::words::unknown;
+use super::words::wide;
 use host_map::MAP_ROOM;
 use host_map::no_entry;
 use host_params::IsolationType;
+use host_params::MAX_VTL2_RAM_RANGES;
 use host_params::MemoryAllocationMode;
 use host_params::MemoryEntry;
 use host_params::MemoryMapEntryType;
-use memory_range::MemoryRange;
 use vtl2_ram::Selection;
 use vtl2_ram::Vtl2Ram;
 use vtl2_ram::select_from_array;
 
-// Number k of a run.
-fn run_number(list: &[u64], run: usize, k: usize) -> u64 {
-    at(list, std::num::wrapping_add_usize(run, k))
+fn entry_of(row: [u64; 4]) -> MemoryEntry {
+    let mem_type = match row[3] {
+        0 => MemoryMapEntryType::Memory,
+        _ => MemoryMapEntryType::Vtl2Protectable,
+    };
+    MemoryEntry {
+        range: range(row[0], row[1]),
+        vnode: low_32_bits(row[2]),
+        mem_type,
+    }
 }
 
-// With the entries of the run that begins at number `run` of a list.
-fn with_run(lists: Lists, list: &[u64], run: usize) -> Lists {
-    let mut more = lists;
-    let mut start = run_number(list, run, 0);
-    let length = run_number(list, run, 1);
-    let step = run_number(list, run, 2);
-    let mut node = run_number(list, run, 4);
-    let node_step = run_number(list, run, 5);
-    let is_protectable = run_number(list, run, 6) == 1;
-    let mut at = lists.count;
-    for _ in 0..run_number(list, run, 3) {
-        if at < ENTRIES {
-            more.starts[at] = start;
-            more.ends[at] = std::num::wrapping_add_u64(start, length);
-            more.nodes[at] = low_32_bits(node);
-            more.protectable[at] = is_protectable;
-        }
-        at = std::num::wrapping_add_usize(at, 1);
-        start = std::num::wrapping_add_u64(start, step);
-        node = std::num::wrapping_add_u64(node, node_step);
+fn map_of(words: &[u64]) -> [MemoryEntry; MAP_ROOM] {
+    let mut map = [no_entry(); MAP_ROOM];
+    for i in 0..MAP_ROOM {
+        map[i] = entry_of(row_at(words, i));
     }
-    more.count = at;
-    more
-}
-
-// With all entries of a list.
-fn with_runs(lists: Lists, list: &[u64]) -> Lists {
-    let mut more = lists;
-    let mut run = 0;
-    for _ in 0..super::case::MOST / 7 {
-        if list.len() <= run {
-            return more;
-        }
-        more = with_run(more, list, run);
-        run = std::num::wrapping_add_usize(run, 7);
-    }
-    more
+    map
 }
 
 fn mode(number: u64) -> MemoryAllocationMode {
-    if number == 0 {
-        return MemoryAllocationMode::Host;
+    match number {
+        0 => MemoryAllocationMode::Host,
+        _ => MemoryAllocationMode::Vtl2,
     }
-    MemoryAllocationMode::Vtl2
 }
 
 fn isolation(number: u64) -> IsolationType {
@@ -85,85 +61,51 @@ fn isolation(number: u64) -> IsolationType {
     }
 }
 
-fn mem_type(is_protectable: bool) -> MemoryMapEntryType {
-    if is_protectable {
-        return MemoryMapEntryType::Vtl2Protectable;
-    }
-    MemoryMapEntryType::Memory
-}
-
-// The entries of a map.
-fn entries_of(map: Lists) -> [MemoryEntry; MAP_ROOM] {
-    let mut entries = [no_entry(); MAP_ROOM];
-    for i in 0..MAP_ROOM {
-        entries[i] = MemoryEntry {
-            range: MemoryRange {
-                start: map.starts[i],
-                end: map.ends[i],
-            },
-            vnode: map.nodes[i],
-            mem_type: mem_type(map.protectable[i]),
-        };
-    }
-    entries
-}
-
-// What the line's lists of entries select.
-fn select<'a>(list: &'a [u64], map: &'a [u64], imports: &'a [u64]) -> Vtl2Ram {
-    let map = with_runs(Lists::none(), map);
-    let imports = with_runs(Lists::none(), imports);
+fn select<'a>(given: First, map: &'a [u64], starts: &'a [u64], ends: &'a [u64]) -> Vtl2Ram {
     select_from_array(
-        mode(at(list, 0)),
-        isolation(at(list, 1)),
-        optional(at(list, 2) == 1, at(list, 3)),
-        MemoryRange {
-            start: at(list, 4),
-            end: at(list, 5),
-        },
-        entries_of(map),
-        map.count,
-        part(&imports.starts, 0, imports.count),
-        part(&imports.ends, 0, imports.count),
+        mode(given.w0),
+        isolation(given.w1),
+        optional(given.w2, given.w3),
+        range(given.w4, given.w5),
+        map_of(map),
+        map.len() / 4,
+        starts,
+        ends,
     )
 }
 
-// Whether the RAM's entries are those of the list, and behind them all is 0.
-fn is_stored(list: &[u64], ram: Vtl2Ram) -> bool {
-    let stored = with_runs(Lists::none(), list);
-    let most = host_params::MAX_VTL2_RAM_RANGES;
-    if !same_numbers(&ram.starts, part(&stored.starts, 0, most)) {
-        return false;
+fn ram_row(ram: Vtl2Ram, i: usize) -> Row {
+    if i < MAX_VTL2_RAM_RANGES {
+        return three(ram.starts[i], ram.ends[i], wide(ram.nodes[i]));
     }
-    if !same_numbers(&ram.ends, part(&stored.ends, 0, most)) {
-        return false;
-    }
-    same_nodes(&ram.nodes, tag_part(&stored.nodes, 0, most))
+    unknown()
 }
 
-// The refusal's number; or 0, the count, the bytes, and whether the entries are the stored ones. A
-// refusal's arrays are 0, as the stored ones of such a line are.
-fn on_select(case: Case, values: &[u64]) -> Numbers {
+// The places of the arrays, start, end and node of each.
+fn same_ram(stored: &[u64], at: usize, ram: Vtl2Ram) -> usize {
+    let mut next = at;
+    for i in 0..MAX_VTL2_RAM_RANGES {
+        next = same_row(stored, next, ram_row(ram, i));
+    }
+    end_of(stored, next)
+}
+
+fn selection_row(selection: Selection) -> Row {
+    match selection {
+        Selection::Refused(number) => one(number as u64),
+        Selection::Chosen(count, bytes) => three(0, count as u64, bytes),
+    }
+}
+
+// The refusal's number; or 0, the count and the bytes. Then the arrays.
+pub(crate) fn selected<'a>(case: Case, words: &'a [u64], stored: &'a [u64]) -> usize {
     let ram = select(
-        case.list(values, 0),
-        case.list(values, 1),
-        case.list(values, 2),
+        first_words(words),
+        case.list(words, 1),
+        case.list(words, 2),
+        case.list(words, 3),
     );
     let selection = ram.selection;
-    let is_stored = number(is_stored(case.list(values, 3), ram));
-    match selection {
-        Selection::Refused(refusal) => Numbers::none().with(refusal as u64).with(is_stored),
-        Selection::Chosen(count, bytes) => Numbers::none()
-            .with(0)
-            .with(count as u64)
-            .with(bytes)
-            .with(is_stored),
-    }
-}
-
-pub(crate) fn answer(op: &[u8], case: Case) -> Numbers {
-    let values = case.values;
-    if check::same(op, b"select") {
-        return on_select(case, &values);
-    }
-    Numbers::unknown()
+    let at = same_row(stored, 0, selection_row(selection));
+    same_ram(stored, at, ram)
 }

@@ -1,83 +1,46 @@
-// The operations of `dma_hint`. A line of hints stands for a series of inputs, each a step after the one
-// before it; equal answers that follow one another are written once, with their number.
-use super::case::Case;
-use super::case::Numbers;
-use super::case::optional;
+// The operations of `dma_hint`.
+use super::kinds::optional;
+use super::words::First;
+use super::words::Row;
+use super::words::one;
+use super::words::same_word;
+use super::words::two;
+use super::words::word_at;
 use dma_hint::PoolSize;
 use host_params::Vtl2GpaPoolConfig;
 use host_params::Vtl2GpaPoolLookupTable;
 
-// With an answer and how often it came, if it came.
-fn with_answer(numbers: Numbers, pages: u64, times: u64) -> Numbers {
-    if times == 0 {
-        return numbers;
-    }
-    numbers.with(pages).with(times)
-}
-
-fn hints(table: Vtl2GpaPoolLookupTable, case: Case) -> Numbers {
-    let mut vp_count = case.number(0, 0);
-    let mut mem_size = case.number(0, 1);
-    let vp_step = case.number(0, 2);
-    let mem_step = case.number(0, 3);
-    let mut numbers = Numbers::none();
-    let mut last = 0;
-    let mut times = 0;
-    for _ in 0..case.number(0, 4) {
+// The hint of each processor count with the memory behind it.
+pub(crate) fn hints<'a>(
+    table: Vtl2GpaPoolLookupTable,
+    words: &'a [u64],
+    stored: &'a [u64],
+) -> usize {
+    let mut at = 0;
+    for i in 0..words.len() / 2 {
+        let vp_count = word_at(words, 2 * i);
+        let mem_size = word_at(words, 2 * i + 1);
         let pages = dma_hint::vtl2_calculate_dma_hint(table, vp_count, mem_size);
-        if pages != last {
-            numbers = with_answer(numbers, last, times);
-            last = pages;
-            times = 0;
-        }
-        times = std::num::wrapping_add_u64(times, 1);
-        vp_count = std::num::wrapping_add_u64(vp_count, vp_step);
-        mem_size = std::num::wrapping_add_u64(mem_size, mem_step);
+        at = same_word(stored, at, pages);
     }
-    with_answer(numbers, last, times)
+    at
 }
 
-// 1 is `pages`, 2 is `release`, 3 is `debug`.
 fn config_of(kind: u64, pages: u64) -> Vtl2GpaPoolConfig {
     match kind {
+        0 => Vtl2GpaPoolConfig::Off,
         1 => Vtl2GpaPoolConfig::Pages(pages),
         2 => Vtl2GpaPoolConfig::Heuristics(Vtl2GpaPoolLookupTable::Release),
-        3 => Vtl2GpaPoolConfig::Heuristics(Vtl2GpaPoolLookupTable::Debug),
-        _ => Vtl2GpaPoolConfig::Off,
+        _ => Vtl2GpaPoolConfig::Heuristics(Vtl2GpaPoolLookupTable::Debug),
     }
 }
 
 // 0, or 1 and the pages.
-fn pool(case: Case) -> Numbers {
-    let picked = dma_hint::pick_private_pool_size(
-        config_of(case.number(0, 0), case.number(0, 1)),
-        optional(case.number(0, 2) == 1, case.number(0, 3)),
-        case.number(0, 4),
-        case.number(0, 5),
-    );
-    match picked {
-        PoolSize::None => Numbers::none().with(0),
-        PoolSize::Pages(pages) => Numbers::none().with(1).with(pages),
+pub(crate) fn pool_size(given: First) -> Row {
+    let config = config_of(given.w0, given.w1);
+    let host_pages = optional(given.w2, given.w3);
+    match dma_hint::pick_private_pool_size(config, host_pages, given.w4, given.w5) {
+        PoolSize::None => one(0),
+        PoolSize::Pages(pages) => two(1, pages),
     }
-}
-
-pub(crate) fn answer(op: &[u8], case: Case) -> Numbers {
-    if check::same(op, b"release") {
-        return hints(Vtl2GpaPoolLookupTable::Release, case);
-    }
-    if check::same(op, b"debug") {
-        return hints(Vtl2GpaPoolLookupTable::Debug, case);
-    }
-    if check::same(op, b"pool") {
-        return pool(case);
-    }
-    Numbers::unknown()
-}
-
-// How many answers the line has.
-pub(crate) fn cases_in(op: &[u8], case: Case) -> u64 {
-    if check::same(op, b"pool") {
-        return 1;
-    }
-    case.number(0, 4)
 }

@@ -1,120 +1,73 @@
 // The operations of `plan_fields` and `plan_text`, each on a text.
-use super::case::MOST;
-use super::case::Numbers;
-use super::decode::decode;
-use super::records::with_record;
+use super::ops;
+use super::records::record_row;
+use super::words::Row;
+use super::words::UNKNOWN;
+use super::words::byte_part;
+use super::words::one;
+use super::words::same_row;
+use super::words::same_word;
+use super::words::two;
 use plan_fields::NumberField;
 use plan_fields::TAB;
 use plan_text::RecordStep;
 use plan_text::TextCheck;
 
-// The number of the refusal, or 0.
-fn checked(text: &[u8]) -> Numbers {
-    match plan_text::check_text(text) {
-        TextCheck::Accepted => Numbers::none().with(0),
-        TextCheck::Refused(refusal) => Numbers::none().with(refusal as u64),
-    }
-}
-
-// The length of the field that starts at a place.
-fn field_len(text: &[u8], from: usize) -> usize {
-    if text.len() < from {
-        return 0;
-    }
-    plan_fields::first_part(&text[from..], TAB).len()
-}
+// After so many steps an answer is too long for any line.
+const MOST_STEPS: usize = 1024;
 
 // The number of fields and the length of each.
-fn cut(text: &[u8]) -> Numbers {
+fn cut<'a>(text: &'a [u8], stored: &'a [u64]) -> usize {
     let count = plan_fields::part_count(text, TAB);
-    let mut numbers = Numbers::none().with(count as u64);
+    let mut at = same_word(stored, 0, count as u64);
     let mut from = 0;
     for _ in 0..count {
-        let len = field_len(text, from);
-        numbers = numbers.with(len as u64);
-        from = std::num::wrapping_add_usize(std::num::wrapping_add_usize(from, len), 1);
+        let field = plan_fields::first_part(byte_part(text, from, text.len()), TAB);
+        at = same_word(stored, at, field.len() as u64);
+        from = std::num::wrapping_add_usize(from, field.len());
+        from = std::num::wrapping_add_usize(from, 1);
     }
-    numbers
+    at
+}
+
+// The records in order. A line that breaks its form is told by the number 14, which is no record's.
+fn stepped<'a>(text: &'a [u8], stored: &'a [u64]) -> usize {
+    let mut at = 0;
+    let mut from = 0;
+    for _ in 0..MOST_STEPS {
+        match plan_text::next_record(text, from) {
+            RecordStep::End => return at,
+            RecordStep::Malformed => return same_word(stored, at, 14),
+            RecordStep::Record(record, behind) => {
+                at = same_row(stored, at, record_row(record));
+                from = behind;
+            }
+        }
+    }
+    UNKNOWN
+}
+
+// The number of the refusal, or 0.
+fn checked(text: &[u8]) -> Row {
+    match plan_text::check_text(text) {
+        TextCheck::Accepted => one(0),
+        TextCheck::Refused(number) => one(number as u64),
+    }
 }
 
 // 1 and the number, or 0.
-fn spelled(text: &[u8]) -> Numbers {
+fn spelled(text: &[u8]) -> Row {
     match plan_fields::read_number(text) {
-        NumberField::Number(n) => Numbers::none().with(1).with(n),
-        NumberField::Malformed => Numbers::none().with(0),
+        NumberField::Number(n) => two(1, n),
+        NumberField::Malformed => one(0),
     }
 }
 
-// The records so far, the place of the next, and whether there is none.
-struct Progress {
-    numbers: Numbers,
-    at: usize,
-    ended: bool,
-}
-
-// A line that breaks its form is told by the number 14, which is no record's.
-fn next(text: &[u8], so_far: Progress) -> Progress {
-    let numbers = so_far.numbers;
-    match plan_text::next_record(text, so_far.at) {
-        RecordStep::Record(found, behind) => Progress {
-            numbers: with_record(numbers, found),
-            at: behind,
-            ended: false,
-        },
-        RecordStep::Malformed => Progress {
-            numbers: numbers.with(14),
-            at: so_far.at,
-            ended: true,
-        },
-        RecordStep::End => Progress {
-            numbers,
-            at: so_far.at,
-            ended: true,
-        },
+pub(crate) fn answer<'a>(op: u64, text: &'a [u8], stored: &'a [u64]) -> usize {
+    match op {
+        ops::CHECK_TEXT => same_row(stored, 0, checked(text)),
+        ops::READ_NUMBER => same_row(stored, 0, spelled(text)),
+        ops::FIRST_PART => cut(text, stored),
+        _ => stepped(text, stored),
     }
-}
-
-fn records(text: &[u8]) -> Numbers {
-    let mut so_far = Progress {
-        numbers: Numbers::none(),
-        at: 0,
-        ended: false,
-    };
-    for _ in 0..MOST {
-        if so_far.ended {
-            return so_far.numbers;
-        }
-        so_far = next(text, so_far);
-    }
-    so_far.numbers
-}
-
-fn on_text(op: &[u8], text: &[u8]) -> Numbers {
-    if check::same(op, b"check_text") {
-        return checked(text);
-    }
-    if check::same(op, b"next_record") {
-        return records(text);
-    }
-    if check::same(op, b"first_part") {
-        return cut(text);
-    }
-    if check::same(op, b"read_number") {
-        return spelled(text);
-    }
-    Numbers::unknown()
-}
-
-// What the operation of that name answers to the text that the word stands for.
-pub(crate) fn answer(op: &[u8], word: &[u8]) -> Numbers {
-    let mut buffer = [0u8; 65540];
-    let decoded = decode(word, &mut buffer);
-    if !decoded.sound {
-        return Numbers::unknown();
-    }
-    let len = decoded.len;
-    if buffer.len() < len {
-        return Numbers::unknown();
-    }
-    on_text(op, &buffer[..len])
 }

@@ -10,11 +10,10 @@ pub table-of-spec : {M : Type 1} → statement M
 table-of-spec =
     tie.close
     (tie.spec
-    (λ list count flag table₀ entry₀ i₀ table entry i. length (table .«address_space») ≡ 256)
-    (λ list count flag table₀ entry₀ i₀ table entry i. 256 - i)
+    (λ words count flag table₀ i₀ table i. length (table .«address_space») ≡ 256)
+    (λ words count flag table₀ i₀ table i. 256 - i)
     (search needs)
-    (search needs)
-    (λ c. rw (c .before .new .ensures))
+    (λ c. rw (c .new .ensures))
     (search needs)
     (search needs)
     (search needs)
