@@ -214,15 +214,15 @@ fn same_pool(stored: &[u64], pool: PrivatePool) -> usize {
     end_of(stored, next)
 }
 
+// The refusal's number, no ranges and no words; or 0, the count of ranges and the number of their words.
 fn placed_row(answer: PoolPlaced) -> Row {
     match answer {
-        PoolPlaced::Refused(number) => two(number as u64, 0),
-        PoolPlaced::Ranges(count) => two(0, count as u64),
+        PoolPlaced::Refused(number) => three(number as u64, 0, 0),
+        PoolPlaced::Ranges(count) => three(0, count as u64, count as u64 % 65_536 * 3),
     }
 }
 
-// The refusal's number and 0, or 0 and the count of ranges; the ranges, with the number of their words in
-// front, which is word 2; then the table.
+// These words, the ranges, and the table.
 fn placed(pool: PrivatePool, stored: &[u64]) -> usize {
     let manager = pool.manager;
     let answer = pool.answer;
