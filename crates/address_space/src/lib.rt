@@ -3,6 +3,8 @@
 //
 // The table's meaning is the list of its first `count` entries, all 256 where the count is above that.
 // Every value of the type is taken.
+#![tactic(auto)]
+
 mod allocate;
 mod fit;
 mod list;

@@ -9,38 +9,38 @@ use crate::usage::{AddressUsage, ReservedMemoryType, type_number};
 use host_params::MemoryVtlType;
 use memory_range::MemoryRange;
 
-#[derive(Drop)]
+#[derive(Clone, Copy)]
 pub struct Vtl2Range {
     pub range: MemoryRange,
     pub vtl_type: MemoryVtlType,
 }
 
-#[derive(Drop)]
+#[derive(Clone, Copy)]
 pub enum Vtl2RangeStep {
     Range(Vtl2Range, usize),
     End,
 }
 
 // The first `count` of them are the list.
-#[derive(Drop)]
+#[derive(Clone, Copy)]
 pub struct Vtl2Ranges {
     pub ranges: [Vtl2Range; MAX_ADDRESS_RANGES],
     pub count: usize,
 }
 
-#[derive(Drop)]
+#[derive(Clone, Copy)]
 pub struct ReservedRange {
     pub range: MemoryRange,
     pub reserved_type: ReservedMemoryType,
 }
 
-#[derive(Drop)]
+#[derive(Clone, Copy)]
 pub enum ReservedRangeStep {
     Range(ReservedRange, usize),
     End,
 }
 
-#[derive(Drop)]
+#[derive(Clone, Copy)]
 pub enum FreeRangeStep {
     Range(MemoryRange, usize),
     End,

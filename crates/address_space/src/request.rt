@@ -17,27 +17,27 @@ use memory_range::{MemoryRange, PAGE_SIZE, RoundedUp, is_power_of_two, round_up}
 use refusal::{ALIGNMENT_INVALID, LENGTH_TOO_LARGE, LENGTH_ZERO, NO_FIT, Rows, TABLE_FULL};
 
 // What is handed out.
-#[derive(Drop)]
+#[derive(Clone, Copy)]
 pub struct AllocatedRange {
     pub range: MemoryRange,
     pub vnode: u32,
 }
 
-#[derive(Drop)]
+#[derive(Clone, Copy)]
 pub enum Allocated {
     Range(AllocatedRange),
     Refused(u8),
 }
 
 // The answer, and the table afterwards.
-#[derive(Drop)]
+#[derive(Clone, Copy)]
 pub struct Allocation {
     pub answer: Allocated,
     pub manager: AddressSpaceManager,
 }
 
 // The length rounded up to pages, or the refusal of a row above the search.
-#[derive(Drop)]
+#[derive(Clone, Copy)]
 pub(crate) enum Length {
     Rounded(u64),
     Refused(u8),

@@ -9,7 +9,7 @@ use crate::table::AddressSpaceManager;
 use host_params::{AllocationPolicy, OptionU32, OptionU64};
 
 // The index of the chosen entry in the table, or that there is none.
-#[derive(Drop)]
+#[derive(Clone, Copy)]
 pub(crate) enum Place {
     At(usize),
     Nowhere,

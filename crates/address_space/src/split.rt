@@ -63,7 +63,7 @@ fn added_by(range: MemoryRange, used: MemoryRange) -> usize
 
 // The parts of an entry that is split: the first and the last of them, the one handed out and how many
 // are below it, and how many entries they add to the table.
-#[derive(Drop)]
+#[derive(Clone, Copy)]
 pub(crate) struct SplitParts {
     pub first: AddressRange,
     pub used: AddressRange,

@@ -8,14 +8,14 @@ use memory_range::MemoryRange;
 pub const MAX_ADDRESS_RANGES: usize = 256;
 
 // An entry of the table.
-#[derive(Drop)]
+#[derive(Clone, Copy)]
 pub struct AddressRange {
     pub range: MemoryRange,
     pub vnode: u32,
     pub usage: AddressUsage,
 }
 
-#[derive(Drop)]
+#[derive(Clone, Copy)]
 pub struct AddressSpaceManager {
     // The first `count` of them are the table, in order of address where a build made it.
     pub address_space: [AddressRange; MAX_ADDRESS_RANGES],

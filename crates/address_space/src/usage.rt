@@ -4,7 +4,7 @@ ghost use Rattle.address_space.specs.Usage.{is_free, reserved_vtl_type, vtl_type
 
 use host_params::{AllocationType, MemoryVtlType};
 
-#[derive(Drop)]
+#[derive(Clone, Copy)]
 pub enum ReservedMemoryType {
     // VTL2's parameters.
     Vtl2Config,
@@ -22,7 +22,7 @@ pub enum ReservedMemoryType {
     PersistedStatePayload,
 }
 
-#[derive(Drop)]
+#[derive(Clone, Copy)]
 pub enum AddressUsage {
     // Free to be handed out.
     Free,

@@ -1,4 +1,6 @@
 // The nodes of a boot map, and the share of the RAM size that each gives.
+#![tactic(auto)]
+
 mod node;
 mod share;
 

@@ -13,7 +13,7 @@ use refusal::{FILE_NOT_IN_MAP, TOO_MANY_PIECES};
 pub const MAX_FREE_PIECES: usize = 1024;
 
 // How many pieces are chosen, and how many are free; or the refusal's number.
-#[derive(Drop)]
+#[derive(Clone, Copy)]
 pub enum FilePieces {
     Count(usize, usize),
     Refused(u8),

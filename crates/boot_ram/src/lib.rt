@@ -4,6 +4,8 @@
 // A map and imported ranges are lent as slices of any length; the shortest slice tells how many
 // entries there are. Pieces are written to arrays that the caller lends; a refusal leaves in them the
 // pieces written before it.
+#![tactic(auto)]
+
 mod file;
 mod import;
 

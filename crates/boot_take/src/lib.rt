@@ -3,6 +3,8 @@
 //
 // The chosen pieces are written to arrays that the caller lends; a refusal leaves in them the pieces
 // written before it.
+#![tactic(auto)]
+
 mod take;
 
 pub use take::take_ram;

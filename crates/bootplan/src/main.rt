@@ -1,4 +1,6 @@
 // Reads a plan text on standard input and writes its plan.
+#![tactic(auto)]
+
 ghost use Rattle.std.specs.Prelude.{◌≤◌, length};
 ghost use Rattle.bootplan.specs.Input.{bytes_in};
 
@@ -11,7 +13,7 @@ use plan_text::TEXT_SIZE;
 const INPUT_SIZE: usize = TEXT_SIZE + 1;
 
 // So many bytes of input, or that it could not be read to its end.
-#[derive(Drop)]
+#[derive(Clone, Copy)]
 enum Input {
     Read(usize),
     Failed,

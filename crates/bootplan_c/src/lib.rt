@@ -1,5 +1,7 @@
 // The planner as a static library for C and Rust. Every number is taken; a pointer must be to a number
 // that may be written, or to as many as the length beside it says.
+#![tactic(auto)]
+
 mod build;
 mod number;
 mod planning;

@@ -6,7 +6,7 @@ use host_params::Vtl2GpaPoolLookupTable;
 use plan::OUTPUT_SIZE;
 
 // The end of its words, or UNKNOWN where one is not the stored one; and so many bytes of the output.
-#[derive(Drop)]
+#[derive(Clone, Copy)]
 pub(crate) struct Answer {
     pub words: usize,
     pub bytes: usize,

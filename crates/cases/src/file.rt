@@ -11,7 +11,7 @@ use plan_fields::first_part;
 
 // What the lines of a file came to so far, and how many bytes of it they have. A line that holds a wrong
 // answer counts with all its cases.
-#[derive(Drop)]
+#[derive(Clone, Copy)]
 struct Counts {
     lines: u64,
     cases: u64,

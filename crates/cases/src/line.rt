@@ -21,7 +21,7 @@ const MOST_LISTS: usize = 16;
 
 // What was read of a line. Its words and bytes stand in two lent buffers, those that it stores as the
 // answer behind those that it gives.
-#[derive(Drop)]
+#[derive(Clone, Copy)]
 pub(crate) struct Case {
     // The place that is read next. One behind the line's end tells that it could not be read.
     pub at: usize,
@@ -39,7 +39,7 @@ pub(crate) struct Case {
 const MOST_DIGITS: usize = 16;
 
 // A number, and the place behind its digits.
-#[derive(Drop)]
+#[derive(Clone, Copy)]
 struct Hex {
     value: u64,
     behind: usize,

@@ -1,6 +1,8 @@
 // Replays stored answers. Each argument is a data file, and each of its lines a case of an operation, or
 // several (see `line`). Where an operation answers something else than the line stores, that is printed, and
 // the file and the line. The last line of each file counts.
+#![tactic(auto)]
+
 mod answer;
 mod calls;
 mod file;

@@ -10,7 +10,7 @@ use memory_range::MemoryRange;
 use plan_record::{Get, Pool, Record, Shape};
 
 // Whether a value is given, and the value.
-#[derive(Drop)]
+#[derive(Clone, Copy)]
 struct Value(u64, u64);
 
 fn optional(value: OptionU64) -> Value {

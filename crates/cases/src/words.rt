@@ -39,7 +39,7 @@ pub(crate) fn put_byte(bytes: &mut [u8], at: usize, byte: u8) -> usize {
 }
 
 // Words that an operation answers at a time: so many at the start of an array.
-#[derive(Drop)]
+#[derive(Clone, Copy)]
 pub(crate) struct Row {
     pub values: [u64; ROW],
     pub count: usize,
@@ -212,7 +212,7 @@ pub(crate) fn row_at(words: &[u64], i: usize) -> [u64; 4] {
 }
 
 // The first words of a line, each 0 where there is none.
-#[derive(Drop)]
+#[derive(Clone, Copy)]
 pub(crate) struct First {
     pub w0: u64,
     pub w1: u64,

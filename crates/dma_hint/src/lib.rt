@@ -1,5 +1,7 @@
 // The size of the private pool: from the command line, from the host, or from a lookup table by the
 // guest's processors and memory.
+#![tactic(auto)]
+
 mod hint;
 mod lookup;
 mod pages;

@@ -5,7 +5,7 @@ ghost use Rattle.dma_hint.specs.Lookup.{lookup, found_within, Within};
 
 use crate::table::{DMA_HINT_MB, Row, VP_COUNT, VTL2_MEMORY_MB, column};
 
-#[derive(Drop)]
+#[derive(Clone, Copy)]
 pub(crate) enum Lookup {
     // The hint, in MiB, of the row of exactly this count and memory.
     Exact(u16),

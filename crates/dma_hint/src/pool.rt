@@ -5,7 +5,7 @@ ghost use Rattle.dma_hint.specs.Pool.{pool_size, pages_in};
 use crate::hint::vtl2_calculate_dma_hint;
 use host_params::{OptionU64, Vtl2GpaPoolConfig};
 
-#[derive(Drop)]
+#[derive(Clone, Copy)]
 pub enum PoolSize {
     // No pool is wanted.
     None,

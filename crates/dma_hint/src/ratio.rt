@@ -5,7 +5,7 @@ ghost use Rattle.dma_hint.specs.Ratio.{ratio, smallest, largest};
 
 use crate::table::{DMA_HINT_MB, Row, VTL2_MEMORY_MB};
 
-#[derive(Drop)]
+#[derive(Clone, Copy)]
 pub(crate) struct Ratios {
     pub min_ratio_1000th: u32,
     pub max_ratio_1000th: u32,

@@ -12,7 +12,7 @@ pub const MAX_PARTITION_RAM_RANGES: usize = 1024;
 // One above the bound, so that a list that is too long is refused by its row.
 pub const MAP_ROOM: usize = MAX_PARTITION_RAM_RANGES + 1;
 
-#[derive(Drop)]
+#[derive(Clone, Copy)]
 pub struct Entries {
     // All entries, in order, where they are within the bound. A longer map is refused, and what is left of
     // it here is not looked at.

@@ -1,5 +1,7 @@
 // The host's map as the caller lends it: a list of entries, copied once, with rows 4 and 5 looked at on
 // the way; or lists of its fields.
+#![tactic(auto)]
+
 mod entries;
 mod rows;
 

@@ -5,7 +5,7 @@ ghost use Rattle.host_map.specs.Rows.{check_start, checked_with, checked_all};
 
 use memory_range::{MemoryRange, range_count};
 
-#[derive(Drop)]
+#[derive(Clone, Copy)]
 pub struct RangeCheck {
     // Whether all ranges so far are valid, and whether they ascend.
     pub valid: bool,

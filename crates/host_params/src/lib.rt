@@ -1,32 +1,34 @@
 // The plain types that several layers of the planner share, by the Rust's names: what the host and
 // the command line say of a guest, what a request for memory asks, and what memory is for.
+#![tactic(auto)]
+
 use memory_range::MemoryRange;
 
 // The RAM of VTL2 has at most so many entries.
 pub const MAX_VTL2_RAM_RANGES: usize = 64;
 
 // A number, or none: the Rust's `Option<u64>`.
-#[derive(Drop)]
+#[derive(Clone, Copy)]
 pub enum OptionU64 {
     Some(u64),
     None,
 }
 
 // A node, or none: the Rust's `Option<u32>`.
-#[derive(Drop)]
+#[derive(Clone, Copy)]
 pub enum OptionU32 {
     Some(u32),
     None,
 }
 
 // Who chooses the RAM of VTL2: the host, or the boot shim from the host's map.
-#[derive(Drop)]
+#[derive(Clone, Copy)]
 pub enum MemoryAllocationMode {
     Host,
     Vtl2,
 }
 
-#[derive(Drop)]
+#[derive(Clone, Copy)]
 pub enum IsolationType {
     None,
     Vbs,
@@ -35,7 +37,7 @@ pub enum IsolationType {
     Cca,
 }
 
-#[derive(Drop)]
+#[derive(Clone, Copy)]
 pub enum MemoryMapEntryType {
     // Memory that the host keeps for VTL2.
     Vtl2Protectable,
@@ -44,7 +46,7 @@ pub enum MemoryMapEntryType {
 }
 
 // An entry of the host's map.
-#[derive(Drop)]
+#[derive(Clone, Copy)]
 pub struct MemoryEntry {
     pub range: MemoryRange,
     pub vnode: u32,
@@ -52,13 +54,13 @@ pub struct MemoryEntry {
 }
 
 // Which table sizes the private pool.
-#[derive(Drop)]
+#[derive(Clone, Copy)]
 pub enum Vtl2GpaPoolLookupTable {
     Release,
     Debug,
 }
 
-#[derive(Drop)]
+#[derive(Clone, Copy)]
 pub enum Vtl2GpaPoolConfig {
     // Sized by a lookup table, unless the host gives a size.
     Heuristics(Vtl2GpaPoolLookupTable),
@@ -68,13 +70,13 @@ pub enum Vtl2GpaPoolConfig {
     Pages(u64),
 }
 
-#[derive(Drop)]
+#[derive(Clone, Copy)]
 pub enum AllocationPolicy {
     LowMemory,
     HighMemory,
 }
 
-#[derive(Drop)]
+#[derive(Clone, Copy)]
 pub enum AllocationType {
     GpaPool,
     SidecarNode,
@@ -82,7 +84,7 @@ pub enum AllocationType {
 }
 
 // What a range of the RAM is for, as it is reported. Free and used RAM is `Ram`.
-#[derive(Drop)]
+#[derive(Clone, Copy)]
 pub enum MemoryVtlType {
     Ram,
     Config,

@@ -5,13 +5,13 @@ ghost use Rattle.memory.specs.Builder.{builder_of, with_reserved_range, with_sid
 use memory_range::MemoryRange;
 
 // A range, or none: the Rust's `Option<MemoryRange>`.
-#[derive(Drop)]
+#[derive(Clone, Copy)]
 pub enum OptionRange {
     Some(MemoryRange),
     None,
 }
 
-#[derive(Drop)]
+#[derive(Clone, Copy)]
 pub struct AddressSpaceManagerBuilder {
     // What the boot shim uses. The kernel may take it, but for what is reserved in it.
     pub bootshim_used: MemoryRange,

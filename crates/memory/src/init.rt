@@ -16,7 +16,7 @@ use address_space::AddressSpaceManager;
 use memory_range::{range_count, tagged_count};
 use refusal::{Counted, Rows};
 
-#[derive(Drop)]
+#[derive(Clone, Copy)]
 pub enum Initialized {
     // The table is built.
     Table,
@@ -24,7 +24,7 @@ pub enum Initialized {
 }
 
 // The answer, and the table afterwards.
-#[derive(Drop)]
+#[derive(Clone, Copy)]
 pub struct Init {
     pub answer: Initialized,
     pub manager: AddressSpaceManager,

@@ -3,6 +3,8 @@
 //
 // Lists are lent as slices of any length; where those of one list differ, the shortest tells how many
 // items there are. A refused build leaves the table and the flag as found.
+#![tactic(auto)]
+
 mod builder;
 mod fill;
 mod init;

@@ -4,6 +4,8 @@
 // A list of ranges is lent as a slice of starts and a slice of ends, of any length; where the two
 // differ in length, the shorter one tells how many ranges there are. Every value is taken: on a list
 // that is not ascending and disjoint each function still ends and equals its definition.
+#![tactic(auto)]
+
 mod align;
 mod list;
 mod power;

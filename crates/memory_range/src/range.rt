@@ -5,21 +5,21 @@ ghost use Rattle.memory_range.specs.Range.{length_of, contains_range, overlap_ra
 
 // The addresses from start up to end, end excluded. A range whose start is not below its end holds
 // no byte.
-#[derive(Drop)]
+#[derive(Clone, Copy)]
 pub struct MemoryRange {
     pub start: u64,
     pub end: u64,
 }
 
 // A range with a number that goes with it: a node, or a type.
-#[derive(Drop)]
+#[derive(Clone, Copy)]
 pub struct TaggedRange {
     pub range: MemoryRange,
     pub tag: u32,
 }
 
 // A range cut in two: left ends where right starts.
-#[derive(Drop)]
+#[derive(Clone, Copy)]
 pub struct SplitRange {
     pub left: MemoryRange,
     pub right: MemoryRange,

@@ -3,7 +3,7 @@ ghost use Rattle.std.specs.Prelude.{◌≡◌, ◌-◌};
 ghost use Rattle.memory_range.specs.Round.{round_up, rounded_up};
 
 // A rounded length, or that the length is above every multiple that 64 bits hold.
-#[derive(Drop)]
+#[derive(Clone, Copy)]
 pub enum RoundedUp {
     To(u64),
     TooLarge,

@@ -17,13 +17,13 @@ use plan_text::{RecordStep, next_record};
 use refusal::Rows;
 
 // The table after all requests, and the place behind their lines.
-#[derive(Drop)]
+#[derive(Clone, Copy)]
 pub(crate) struct Answered {
     pub manager: AddressSpaceManager,
     pub next: usize,
 }
 
-#[derive(Drop)]
+#[derive(Clone, Copy)]
 pub(crate) enum GetStep {
     Get(Get, usize),
     End,

@@ -1,5 +1,7 @@
 // From a plan text to its plan: the text is read, RAM is selected, the table is built, the private pool
 // is placed, and each request is answered on the table that the last one left.
+#![tactic(auto)]
+
 mod get;
 mod line;
 mod planner;

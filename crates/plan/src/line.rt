@@ -9,7 +9,7 @@ use plan_output::{
     LINE_SIZE, Put, put_word, write_got, write_map, write_no, write_pool, write_ram,
 };
 
-#[derive(Drop)]
+#[derive(Clone, Copy)]
 pub enum OutputLine {
     Ram(MemoryRange, u32),
     Pool(MemoryRange, u32),

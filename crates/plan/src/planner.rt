@@ -45,14 +45,14 @@ const MOST_OTHER_LINES: usize = MAX_VTL2_RAM_RANGES + MAX_VTL2_RAM_RANGES + MAX_
 // So many bytes suffice for every plan.
 pub const OUTPUT_SIZE: usize = (MOST_OTHER_LINES + TEXT_SIZE / SHORTEST_GET) * LINE_SIZE;
 
-#[derive(Drop)]
+#[derive(Clone, Copy)]
 pub enum Planned {
     // So many bytes of the output.
     Written(usize),
     Refused(u8),
 }
 
-#[derive(Drop)]
+#[derive(Clone, Copy)]
 pub enum PlannedTo {
     // So many bytes of the output.
     Written(usize),

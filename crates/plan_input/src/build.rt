@@ -16,7 +16,7 @@ pub const CONFIG_ROOM: usize = 21;
 
 pub const POOL_ROOM: usize = 65;
 
-#[derive(Drop)]
+#[derive(Clone, Copy)]
 pub struct BuildRead {
     pub builder: AddressSpaceManagerBuilder,
     pub config_count: usize,

@@ -1,5 +1,7 @@
 // What an accepted plan text gives the planner, read in the order of its records: what selection is
 // given, what the build is given, and the pool. The requests behind them are answered as they are read.
+#![tactic(auto)]
+
 mod build;
 mod entry;
 mod list;

@@ -16,7 +16,7 @@ use host_map::{RangeCheck, put_entry};
 use memory_range::put_address;
 
 // How many there are, rows 4 and 5 of them, the place behind them, and the order that they leave.
-#[derive(Drop)]
+#[derive(Clone, Copy)]
 pub(crate) struct ListRead {
     pub count: usize,
     pub check: RangeCheck,

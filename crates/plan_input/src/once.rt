@@ -8,14 +8,14 @@ use host_params::{IsolationType, MemoryAllocationMode, OptionU64, Vtl2GpaPoolCon
 use plan_record::{Pool, Record, Shape};
 use plan_text::{RecordStep, next_record, order_after};
 
-#[derive(Drop)]
+#[derive(Clone, Copy)]
 pub(crate) struct ShapeRead {
     pub shape: Shape,
     pub next: usize,
     pub order: u8,
 }
 
-#[derive(Drop)]
+#[derive(Clone, Copy)]
 pub struct PoolRead {
     pub pool: Pool,
     pub next: usize,

@@ -32,7 +32,7 @@ pub(crate) const LOG: u8 = 10;
 pub(crate) const GPOOL: u8 = 11;
 
 // A range, if the record is there, the place behind it, and the order that it leaves.
-#[derive(Drop)]
+#[derive(Clone, Copy)]
 pub(crate) struct RangeRead {
     pub range: OptionRange,
     pub next: usize,

@@ -16,7 +16,7 @@ use plan_record::Shape;
 // One above the bound of row 6, so that a list that is too long is refused by that row.
 pub const IMPORT_ROOM: usize = 257;
 
-#[derive(Drop)]
+#[derive(Clone, Copy)]
 pub struct SelectionRead {
     pub shape: Shape,
     pub file: MemoryRange,

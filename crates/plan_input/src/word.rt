@@ -8,14 +8,14 @@ ghost use Rattle.plan_input.specs.declared.word.OptionRecord.TheVariants.{None};
 use plan_record::Record;
 use plan_text::{RecordStep, next_record, order_after, record_place};
 
-#[derive(Drop)]
+#[derive(Clone, Copy)]
 pub(crate) enum OptionRecord {
     Some(Record),
     None,
 }
 
 // A record, if there is one, the place behind it, and the order that it leaves.
-#[derive(Drop)]
+#[derive(Clone, Copy)]
 pub(crate) struct WordRead {
     pub record: OptionRecord,
     pub next: usize,

@@ -1,4 +1,6 @@
 // The lines that a plan is written as, and the words and numbers that they are made of.
+#![tactic(auto)]
+
 mod line;
 mod put;
 

@@ -4,7 +4,7 @@ ghost use Rattle.plan_output.specs.Number.{hex_of};
 ghost use Rattle.plan_output.specs.Put.{put_at, put_in, put_place};
 
 // The place behind what was put, or that there is no room, and nothing was written.
-#[derive(Drop)]
+#[derive(Clone, Copy)]
 pub enum Put {
     To(usize),
     NoRoom,

@@ -1,4 +1,6 @@
 // A line of the plan text as a record with its values.
+#![tactic(auto)]
+
 mod record;
 mod value;
 

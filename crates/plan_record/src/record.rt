@@ -18,14 +18,14 @@ use plan_fields::{
     NumberField, NumberPart, TAB, first_number, first_part, later_parts, read_number, same_bytes,
 };
 
-#[derive(Drop)]
+#[derive(Clone, Copy)]
 pub struct Shape {
     pub mode: MemoryAllocationMode,
     pub isolation: IsolationType,
     pub memory_size: OptionU64,
 }
 
-#[derive(Drop)]
+#[derive(Clone, Copy)]
 pub struct Pool {
     pub config: Vtl2GpaPoolConfig,
     pub host_pages: OptionU64,
@@ -33,7 +33,7 @@ pub struct Pool {
     pub split: bool,
 }
 
-#[derive(Drop)]
+#[derive(Clone, Copy)]
 pub struct Get {
     pub required_vnode: OptionU32,
     pub len: u64,
@@ -43,7 +43,7 @@ pub struct Get {
 }
 
 // A line's record with its values, named by its first word.
-#[derive(Drop)]
+#[derive(Clone, Copy)]
 pub enum Record {
     Shape(Shape),
     File(MemoryRange),
@@ -62,14 +62,14 @@ pub enum Record {
 }
 
 // A record, or that the line breaks its form.
-#[derive(Drop)]
+#[derive(Clone, Copy)]
 pub enum Line {
     Record(Record),
     Malformed,
 }
 
 // A start and an end, or that one of them is no number.
-#[derive(Drop)]
+#[derive(Clone, Copy)]
 pub(crate) enum RangeFields {
     Is(MemoryRange),
     Malformed,

@@ -11,7 +11,7 @@ use host_params::{
 };
 use plan_fields::{NumberField, NumberPart, first_number, read_number, same_bytes};
 
-#[derive(Drop)]
+#[derive(Clone, Copy)]
 pub(crate) enum ModeField {
     Is(MemoryAllocationMode),
     Malformed,
@@ -29,7 +29,7 @@ pub(crate) fn read_mode(field: &[u8]) -> ModeField
     ModeField::Malformed
 }
 
-#[derive(Drop)]
+#[derive(Clone, Copy)]
 pub(crate) enum IsolationField {
     Is(IsolationType),
     Malformed,
@@ -56,7 +56,7 @@ pub(crate) fn read_isolation(field: &[u8]) -> IsolationField
     IsolationField::Malformed
 }
 
-#[derive(Drop)]
+#[derive(Clone, Copy)]
 pub(crate) enum EntryTypeField {
     Is(MemoryMapEntryType),
     Malformed,
@@ -74,7 +74,7 @@ pub(crate) fn read_entry_type(field: &[u8]) -> EntryTypeField
     EntryTypeField::Malformed
 }
 
-#[derive(Drop)]
+#[derive(Clone, Copy)]
 pub(crate) enum PolicyField {
     Is(AllocationPolicy),
     Malformed,
@@ -92,7 +92,7 @@ pub(crate) fn read_policy(field: &[u8]) -> PolicyField
     PolicyField::Malformed
 }
 
-#[derive(Drop)]
+#[derive(Clone, Copy)]
 pub(crate) enum KindField {
     Is(AllocationType),
     Malformed,
@@ -113,7 +113,7 @@ pub(crate) fn read_kind(field: &[u8]) -> KindField
     KindField::Malformed
 }
 
-#[derive(Drop)]
+#[derive(Clone, Copy)]
 pub(crate) enum SplitField {
     Is(bool),
     Malformed,
@@ -131,7 +131,7 @@ pub(crate) fn read_split(field: &[u8]) -> SplitField
     SplitField::Malformed
 }
 
-#[derive(Drop)]
+#[derive(Clone, Copy)]
 pub(crate) enum OptionalField {
     Is(OptionU64),
     Malformed,
@@ -151,7 +151,7 @@ pub(crate) fn read_optional(field: &[u8]) -> OptionalField
 }
 
 // The value of the first of several fields where it may be absent, and the size of that field.
-#[derive(Drop)]
+#[derive(Clone, Copy)]
 pub(crate) enum OptionalPart {
     Is(OptionU64, usize),
     Malformed,
@@ -180,7 +180,7 @@ pub(crate) fn first_optional(fields: &[u8]) -> OptionalPart
     }
 }
 
-#[derive(Drop)]
+#[derive(Clone, Copy)]
 pub(crate) enum NodeField {
     Is(u32),
     Malformed,
@@ -198,7 +198,7 @@ pub(crate) fn read_node(number: u64) -> NodeField
     NodeField::Is(number as u32)
 }
 
-#[derive(Drop)]
+#[derive(Clone, Copy)]
 pub(crate) enum OptionalNodeField {
     Is(OptionU32),
     Malformed,
@@ -217,7 +217,7 @@ pub(crate) fn read_optional_node(number: OptionU64) -> OptionalNodeField
     }
 }
 
-#[derive(Drop)]
+#[derive(Clone, Copy)]
 pub(crate) enum ConfigField {
     Is(Vtl2GpaPoolConfig),
     Malformed,

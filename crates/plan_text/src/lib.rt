@@ -1,4 +1,6 @@
 // The plan text as a whole: the order of its records, and a step that goes through them.
+#![tactic(auto)]
+
 mod order;
 mod text;
 

@@ -17,14 +17,14 @@ const LONGEST_LINE: usize = 4 + 1 + 5 + 1 + 16 + 1 + 16 + 1 + 16 + 1 + 1 + 1;
 
 // The next record and the place behind its line; that the line there breaks its form; or that there
 // is none.
-#[derive(Drop)]
+#[derive(Clone, Copy)]
 pub enum RecordStep {
     Record(Record, usize),
     Malformed,
     End,
 }
 
-#[derive(Drop)]
+#[derive(Clone, Copy)]
 pub enum TextCheck {
     Accepted,
     Refused(u8),

@@ -1,4 +1,6 @@
 // The placement of the private pool: whole on node 0, or split over the nodes of the table.
+#![tactic(auto)]
+
 mod nodes;
 mod piece;
 mod place;

@@ -8,7 +8,7 @@ use memory_range::MemoryRange;
 // A table of 256 entries has at most so many nodes, and a pool one range on each.
 pub const MAX_POOL_RANGES: usize = 256;
 
-#[derive(Drop)]
+#[derive(Clone, Copy)]
 pub enum PoolPlaced {
     // So many ranges are placed.
     Ranges(usize),
@@ -16,7 +16,7 @@ pub enum PoolPlaced {
 }
 
 // The answer, the ranges in the order of their nodes, and the table afterwards.
-#[derive(Drop)]
+#[derive(Clone, Copy)]
 pub struct PrivatePool {
     pub answer: PoolPlaced,
     pub ranges: [AllocatedRange; MAX_POOL_RANGES],

@@ -3,6 +3,8 @@
 //
 // Lists are lent as slices, a slice for each field, as in the crate memory_range. Every value is taken:
 // on a list that is not ascending and disjoint each function still ends and equals its definition.
+#![tactic(auto)]
+
 mod merge;
 mod node;
 mod sort;

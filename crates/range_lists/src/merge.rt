@@ -6,7 +6,7 @@ ghost use Rattle.range_lists.specs.Merge.{continued_by, merge_adjacent, merge_st
 use memory_range::{MemoryRange, TaggedRange, tagged_count};
 
 // The next joined range and the index behind what it was made of, or that there is none.
-#[derive(Drop)]
+#[derive(Clone, Copy)]
 pub enum MergeStep {
     Range(TaggedRange, usize),
     End,

@@ -7,14 +7,14 @@ use super::walk::{RangeWalkResult, WalkCursor, WalkStep, walk_ranges};
 use memory_range::MemoryRange;
 
 // A part of the first list's item of that index.
-#[derive(Drop)]
+#[derive(Clone, Copy)]
 pub struct Remainder {
     pub range: MemoryRange,
     pub item: usize,
 }
 
 // The next part and the cursor behind it, or that there is none.
-#[derive(Drop)]
+#[derive(Clone, Copy)]
 pub enum SubtractStep {
     Range(Remainder, WalkCursor),
     End,

@@ -11,14 +11,14 @@ ghost use Rattle.range_lists.specs.WalkStep.{first_of, pass_left, pass_right, pa
 use memory_range::{MemoryRange, range_count};
 
 // Which item of each list holds a piece.
-#[derive(Drop)]
+#[derive(Clone, Copy)]
 pub enum RangeWalkResult {
     Left(usize),
     Right(usize),
     Both(usize, usize),
 }
 
-#[derive(Drop)]
+#[derive(Clone, Copy)]
 pub struct WalkPiece {
     pub range: MemoryRange,
     pub result: RangeWalkResult,
@@ -26,7 +26,7 @@ pub struct WalkPiece {
 
 // Where the walk stands: the address of the last boundary passed, and how many boundaries of each
 // list are passed.
-#[derive(Drop)]
+#[derive(Clone, Copy)]
 pub struct WalkCursor {
     pub at: u64,
     pub left: usize,
@@ -47,28 +47,28 @@ impl WalkCursor {
 }
 
 // The next piece and the cursor behind it, or that there is none.
-#[derive(Drop)]
+#[derive(Clone, Copy)]
 pub enum WalkStep {
     Piece(WalkPiece, WalkCursor),
     End,
 }
 
 // The next boundary of a list, or that all are passed.
-#[derive(Drop)]
+#[derive(Clone, Copy)]
 pub(crate) enum NextBoundary {
     At(u64),
     Passed,
 }
 
 // The cursor behind the next boundary, or that all are passed.
-#[derive(Drop)]
+#[derive(Clone, Copy)]
 pub(crate) enum Pass {
     To(WalkCursor),
     End,
 }
 
 // A piece, or that none lies there.
-#[derive(Drop)]
+#[derive(Clone, Copy)]
 pub(crate) enum Found {
     Piece(WalkPiece),
     Nothing,

@@ -2,6 +2,8 @@
 // looked at in the order of the chart there. Every other crate names them by these constants, and
 // its contracts by the names of specs/Number.antt; `numbers` is proved to be the one list of the
 // other, so that the two cannot part.
+#![tactic(auto)]
+
 ghost use Rattle.std.specs.Prelude.{◌≡◌};
 ghost use Rattle.refusal.specs.Number.{all};
 

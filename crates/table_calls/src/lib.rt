@@ -1,5 +1,7 @@
 // What the library's calls are given and answer, as words: requests, the pool's pieces, a table's
 // ranges, and what a table is built from.
+#![tactic(auto)]
+
 mod build;
 mod pool;
 mod ranges;

@@ -1,6 +1,8 @@
 // The typed address table as a slice of words, for callers that lend it so: its count of entries, its
 // flag, and four words for each entry. Every bit pattern of the words is taken. And the numbers that the
 // calls of the library answer.
+#![tactic(auto)]
+
 mod code;
 mod entry;
 mod list;

@@ -12,7 +12,7 @@ use memory_range::MemoryRange;
 pub const TABLE_WORDS: usize = 1026;
 
 // Whether the words stand for a table, and the table; where they do not, a new one.
-#[derive(Drop)]
+#[derive(Clone, Copy)]
 pub struct TableRead {
     pub ok: bool,
     pub manager: AddressSpaceManager,

@@ -20,7 +20,7 @@ use range_lists::sort_by_start;
 use refusal::{Counted, IMPORT_CROSSES_FILE, RAM_SIZE_BELOW_FILE, SHARE_TOO_LARGE};
 
 // Each node's share, or the refusal's number.
-#[derive(Drop)]
+#[derive(Clone, Copy)]
 pub(crate) enum NodeShare {
     Bytes(u64),
     Refused(u8),

@@ -1,4 +1,6 @@
 // Which RAM the guest's VTL2 gets: chosen by the boot shim from the host's map, or by the host.
+#![tactic(auto)]
+
 mod boot;
 mod host;
 mod ram;

@@ -8,7 +8,7 @@ ghost use Rattle.vtl2_ram.specs.Ram.{ram_of, ram_refused, ram_with};
 use host_params::MAX_VTL2_RAM_RANGES;
 use memory_range::MemoryRange;
 
-#[derive(Drop)]
+#[derive(Clone, Copy)]
 pub enum Selection {
     // So many entries, with so many bytes in all.
     Chosen(usize, u64),
@@ -18,7 +18,7 @@ pub enum Selection {
 
 // The chosen entries stand in the first places of the arrays, ascending by start. The places behind
 // them, and all where the selection is refused, are 0.
-#[derive(Drop)]
+#[derive(Clone, Copy)]
 pub struct Vtl2Ram {
     pub selection: Selection,
     pub starts: [u64; MAX_VTL2_RAM_RANGES],
