@@ -16,7 +16,7 @@ pub(crate) fn put_bytes(buffer: &mut [u8], at: usize, word: &[u8]) -> usize
     ensures value { result ≡ at + length word.now }
     ensures buffer_after { buffer.new ≡ put_at at word.now buffer.old }
 {
-    bytes::copy(word, &mut buffer[at..]);
+    buffer[at..at + word.len()].copy_from_slice(word);
     at + word.len()
 }
 
