@@ -1,4 +1,6 @@
 // The fields of a line of text: cutting them, comparing them with words, and reading numbers.
+#![tactic(auto)]
+
 mod cut;
 mod number;
 mod word;
