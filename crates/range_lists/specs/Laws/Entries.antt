@@ -50,5 +50,5 @@ next-piece ls rs at {next} {p = p} h s r =
 pub entries_items : (ls : List MemoryRange) (m : List TaggedRange) (at : WalkCursor) {p : WalkPiece} {ps : List WalkPiece}
     → walk_from ls (ranges_in m) at ≡ p ∷ ps → InLists (length ls) (length m) p
 entries_items ls m at {p} {ps} h =
-    let items : All (InLists (length ls) (length m)) (p ∷ ps) = rw (h, length-ranges_in m) at (walk_items ls (ranges_in m) at) in
-    items.0
+    let items : All (InLists (length ls) (length (ranges_in m))) (p ∷ ps) = rw h at (walk_items ls (ranges_in m) at) in
+    rw (length-ranges_in m) at items.0
