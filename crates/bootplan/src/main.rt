@@ -4,10 +4,10 @@
 ghost use Rattle.std.specs.Prelude.{◌≤◌, length};
 ghost use Rattle.bootplan.specs.Input.{bytes_in};
 
-use libc::{STDERR_FILENO, STDIN_FILENO, STDOUT_FILENO};
 use plan::{OUTPUT_SIZE, Planned, plan};
 use plan_output::{LINE_SIZE, write_no};
 use plan_text::TEXT_SIZE;
+use std::io::Read;
 
 // One byte more than a text may have, so that a text that is too long shows.
 const INPUT_SIZE: usize = TEXT_SIZE + 1;
@@ -20,51 +20,47 @@ enum Input {
 }
 
 // Reads to the end of the input, or until the buffer is full.
-fn read_input(buffer: &mut [u8]) -> Input
+fn read_input<R: Read>(input: &mut R, buffer: &mut [u8]) -> Input
     ensures { bytes_in result ≤ length buffer.new }
 {
     let mut len = 0;
     while len < buffer.len() {
-        let got = libc::read(STDIN_FILENO, &mut buffer[len..]);
-        if got < 0 {
-            return Input::Failed;
+        match input.read(&mut buffer[len..]) {
+            Ok(0) => return Input::Read(len),
+            Ok(more) => len += more,
+            Err(_) => return Input::Failed,
         }
-        let more = io::count(got, &buffer[len..]);
-        if more == 0 {
-            return Input::Read(len);
-        }
-        len += more;
     }
     Input::Read(len)
 }
 
-fn write_output(bytes: &[u8]) {
-    if !io::write_all(STDOUT_FILENO, bytes) {
-        io::write_all(
-            STDERR_FILENO,
-            b"bootplan: the output could not be written\n",
-        );
+// Where nothing can be said on standard error either, nothing is said.
+fn say(rt: &impl Eprint, what: &str) {
+    let _ = rt.eprintln(what);
+}
+
+fn write_output(rt: &(impl Print + Eprint), bytes: &[u8]) {
+    if rt.write_all(bytes).is_err() {
+        say(rt, "bootplan: the output could not be written");
     }
 }
 
-fn write_plan(text: &[u8]) {
+fn write_plan(rt: &(impl Print + Eprint), text: &[u8]) {
     let mut output = [0u8; OUTPUT_SIZE];
     match plan(text, &mut output) {
-        Planned::Written(len) => write_output(&output[..len]),
+        Planned::Written(len) => write_output(rt, &output[..len]),
         Planned::Refused(number) => {
             let mut line = [0u8; LINE_SIZE];
             let len = write_no(&mut line, number);
-            write_output(&line[..len]);
+            write_output(rt, &line[..len]);
         }
     }
 }
 
-fn main() {
+fn main(rt: HostRuntime) {
     let mut buffer = [0u8; INPUT_SIZE];
-    match read_input(&mut buffer) {
-        Input::Read(len) => write_plan(&buffer[..len]),
-        Input::Failed => {
-            io::write_all(STDERR_FILENO, b"bootplan: the input could not be read\n");
-        }
+    match read_input(&mut rt.stdin(), &mut buffer) {
+        Input::Read(len) => write_plan(&rt, &buffer[..len]),
+        Input::Failed => say(&rt, "bootplan: the input could not be read"),
     }
 }

@@ -4,6 +4,7 @@ use super::words::{byte_part, first_words, part, same_row};
 use super::{calls, lists, ops, output, ranges, selections, sizes, texts};
 use host_params::Vtl2GpaPoolLookupTable;
 use plan::OUTPUT_SIZE;
+use std::io::Stdout;
 
 // The end of its words, or UNKNOWN where one is not the stored one; and so many bytes of the output.
 #[derive(Clone, Copy)]
@@ -12,37 +13,47 @@ pub(crate) struct Answer {
     pub bytes: usize,
 }
 
-fn on_words<'a>(op: u64, case: Case, words: &'a [u64], stored: &'a [u64]) -> usize {
+fn on_words<'a>(out: Stdout, op: u64, case: Case, words: &'a [u64], stored: &'a [u64]) -> usize {
     match op {
-        ops::RELEASE => sizes::hints(Vtl2GpaPoolLookupTable::Release, words, stored),
-        ops::DEBUG => sizes::hints(Vtl2GpaPoolLookupTable::Debug, words, stored),
-        ops::POOL => same_row(stored, 0, sizes::pool_size(first_words(words))),
-        ops::SELECT => selections::selected(case, words, stored),
-        ops::BUILD | ops::GET | ops::LIST | ops::PLACE => calls::answer(op, case, words, stored),
+        ops::RELEASE => sizes::hints(out, Vtl2GpaPoolLookupTable::Release, words, stored),
+        ops::DEBUG => sizes::hints(out, Vtl2GpaPoolLookupTable::Debug, words, stored),
+        ops::POOL => same_row(out, stored, 0, sizes::pool_size(first_words(words))),
+        ops::SELECT => selections::selected(out, case, words, stored),
+        ops::BUILD | ops::GET | ops::LIST | ops::PLACE => calls::answer(
+            out, op, case, words, stored,
+        ),
         ops::RANGES_VALID
         | ops::RANGES_ASCEND
         | ops::SORT_BY_START
         | ops::INSERT_NODE
         | ops::MERGE_ADJACENT_RANGES
         | ops::WALK_RANGES
-        | ops::SUBTRACT_RANGES => lists::answer(op, case, words, stored),
-        _ => same_row(stored, 0, ranges::answer(op, first_words(words))),
+        | ops::SUBTRACT_RANGES => lists::answer(out, op, case, words, stored),
+        _ => same_row(out, stored, 0, ranges::answer(op, first_words(words))),
     }
 }
 
 // An answer without bytes.
-fn of_words<'a>(op: u64, case: Case, words: &'a [u64], text: &'a [u8], stored: &'a [u64]) -> usize {
+fn of_words<'a>(
+    out: Stdout,
+    op: u64,
+    case: Case,
+    words: &'a [u64],
+    text: &'a [u8],
+    stored: &'a [u64],
+) -> usize {
     match op {
         ops::CHECK_TEXT | ops::NEXT_RECORD | ops::FIRST_PART | ops::READ_NUMBER => {
-            texts::answer(op, text, stored)
+            texts::answer(out, op, text, stored)
         }
-        _ => on_words(op, case, words, stored),
+        _ => on_words(out, op, case, words, stored),
     }
 }
 
 // Runs a case's operation on the words and the text that it is given. Its words are compared with the stored
 // ones; what it writes is in the output.
 pub(crate) fn run<'a>(
+    out: Stdout,
     op: u64,
     case: Case,
     words: &'a [u64],
@@ -60,9 +71,9 @@ pub(crate) fn run<'a>(
         | ops::WRITE_MAP
         | ops::WRITE_NO
         | ops::PUT_NUMBER
-        | ops::PUT_WORD => output::answer(op, first_words(words), stored, output),
+        | ops::PUT_WORD => output::answer(out, op, first_words(words), stored, output),
         _ => Answer {
-            words: of_words(op, case, words, text, stored),
+            words: of_words(out, op, case, words, text, stored),
             bytes: 0,
         },
     }

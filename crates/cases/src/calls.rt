@@ -17,6 +17,7 @@ use address_space::{
 use host_params::{AllocationPolicy, AllocationType, OptionU32};
 use memory::{AddressSpaceManagerBuilder, Initialized};
 use private_pool::{MAX_POOL_RANGES, PoolPlaced, PrivatePool, allocate_private_pool};
+use std::io::Stdout;
 
 // Word 2 tells which of the ranges from word 7 on are given.
 fn builder(given: First) -> AddressSpaceManagerBuilder {
@@ -38,7 +39,13 @@ fn builder(given: First) -> AddressSpaceManagerBuilder {
 }
 
 // The refusal's number or 0, then the table.
-fn built<'a>(case: Case, words: &'a [u64], table: AddressSpaceManager, stored: &'a [u64]) -> usize {
+fn built<'a>(
+    out: Stdout,
+    case: Case,
+    words: &'a [u64],
+    table: AddressSpaceManager,
+    stored: &'a [u64],
+) -> usize {
     let mut nodes = [0u32; MOST_ITEMS];
     let count = copy_tags(case.list(words, 4), &mut nodes);
     let init = builder(first_words(words)).init(
@@ -57,8 +64,8 @@ fn built<'a>(case: Case, words: &'a [u64], table: AddressSpaceManager, stored: &
         Initialized::Refused(number) => number,
         Initialized::Table => 0,
     };
-    let at = same_word(stored, 0, number as u64);
-    same_table(stored, at, manager)
+    let at = same_word(out, stored, 0, number as u64);
+    same_table(out, stored, at, manager)
 }
 
 fn vnode(is_given: u64, node: u64) -> OptionU32 {
@@ -103,25 +110,26 @@ fn allocated_row(answer: Allocated) -> Row {
 }
 
 // The refusal's number; or 0, the range and its node. Then the table.
-fn requested(allocation: Allocation, stored: &[u64]) -> usize {
+fn requested(out: Stdout, allocation: Allocation, stored: &[u64]) -> usize {
     let manager = allocation.manager;
     let answer = allocation.answer;
-    let at = same_row(stored, 0, allocated_row(answer));
-    same_table(stored, at, manager)
+    let at = same_row(out, stored, 0, allocated_row(answer));
+    same_table(out, stored, at, manager)
 }
 
 // The lists of a table, each with the number of its words in front. They take one turn more than a table has
 // entries: a list that has not ended by then is too long.
-fn joined(table: AddressSpaceManager, stored: &[u64], front: usize) -> usize {
+fn joined(out: Stdout, table: AddressSpaceManager, stored: &[u64], front: usize) -> usize {
     let mut at = std::num::wrapping_add_usize(front, 1);
     let mut next = 0;
     for _ in 0..MAX_ADDRESS_RANGES + 1 {
         match table.vtl2_ranges(next) {
-            Vtl2RangeStep::End => return same_count(stored, front, at),
+            Vtl2RangeStep::End => return same_count(out, stored, front, at),
             Vtl2RangeStep::Range(found, behind) => {
                 let vtl_type = found.vtl_type;
                 let number = vtl_type_number(vtl_type);
                 at = same_row(
+                    out,
                     stored,
                     at,
                     three(found.range.start, found.range.end, number),
@@ -133,16 +141,17 @@ fn joined(table: AddressSpaceManager, stored: &[u64], front: usize) -> usize {
     UNKNOWN
 }
 
-fn reserved(table: AddressSpaceManager, stored: &[u64], front: usize) -> usize {
+fn reserved(out: Stdout, table: AddressSpaceManager, stored: &[u64], front: usize) -> usize {
     let mut at = std::num::wrapping_add_usize(front, 1);
     let mut next = 0;
     for _ in 0..MAX_ADDRESS_RANGES + 1 {
         match table.reserved_vtl2_ranges(next) {
-            ReservedRangeStep::End => return same_count(stored, front, at),
+            ReservedRangeStep::End => return same_count(out, stored, front, at),
             ReservedRangeStep::Range(found, behind) => {
                 let reserved_type = found.reserved_type;
                 let number = reserved_number(reserved_type);
                 at = same_row(
+                    out,
                     stored,
                     at,
                     three(found.range.start, found.range.end, number),
@@ -154,14 +163,20 @@ fn reserved(table: AddressSpaceManager, stored: &[u64], front: usize) -> usize {
     UNKNOWN
 }
 
-fn free(table: AddressSpaceManager, vnode: u32, stored: &[u64], front: usize) -> usize {
+fn free(
+    out: Stdout,
+    table: AddressSpaceManager,
+    vnode: u32,
+    stored: &[u64],
+    front: usize,
+) -> usize {
     let mut at = std::num::wrapping_add_usize(front, 1);
     let mut next = 0;
     for _ in 0..MAX_ADDRESS_RANGES + 1 {
         match table.free_ranges(vnode, next) {
-            FreeRangeStep::End => return same_count(stored, front, at),
+            FreeRangeStep::End => return same_count(out, stored, front, at),
             FreeRangeStep::Range(range, behind) => {
-                at = same_row(stored, at, two(range.start, range.end));
+                at = same_row(out, stored, at, two(range.start, range.end));
                 next = behind;
             }
         }
@@ -170,11 +185,11 @@ fn free(table: AddressSpaceManager, vnode: u32, stored: &[u64], front: usize) ->
 }
 
 // The flag, and the three lists.
-fn listed(table: AddressSpaceManager, vnode: u32, stored: &[u64]) -> usize {
-    let front = same_word(stored, 0, table.has_vtl2_pool() as u64);
-    let front = joined(table, stored, front);
-    let front = reserved(table, stored, front);
-    free(table, vnode, stored, front)
+fn listed(out: Stdout, table: AddressSpaceManager, vnode: u32, stored: &[u64]) -> usize {
+    let front = same_word(out, stored, 0, table.has_vtl2_pool() as u64);
+    let front = joined(out, table, stored, front);
+    let front = reserved(out, table, stored, front);
+    free(out, table, vnode, stored, front)
 }
 
 fn range_row(placed: AllocatedRange) -> Row {
@@ -182,10 +197,10 @@ fn range_row(placed: AllocatedRange) -> Row {
 }
 
 // The places of the array, start, end and node of each.
-fn same_pool(stored: &[u64], pool: PrivatePool) -> usize {
+fn same_pool(out: Stdout, stored: &[u64], pool: PrivatePool) -> usize {
     let mut next = 0;
     for i in 0..MAX_POOL_RANGES {
-        next = same_row(stored, next, range_row(pool.ranges[i]));
+        next = same_row(out, stored, next, range_row(pool.ranges[i]));
     }
     end_of(stored, next)
 }
@@ -199,28 +214,35 @@ fn placed_row(answer: PoolPlaced) -> Row {
 }
 
 // These words, the ranges, and the table.
-fn placed(pool: PrivatePool, stored: &[u64]) -> usize {
+fn placed(out: Stdout, pool: PrivatePool, stored: &[u64]) -> usize {
     let manager = pool.manager;
     let answer = pool.answer;
-    if same_row(stored, 0, placed_row(answer)) == UNKNOWN {
+    if same_row(out, stored, 0, placed_row(answer)) == UNKNOWN {
         return UNKNOWN;
     }
     let end = std::num::wrapping_add_usize(3, word_at(stored, 2) as usize);
-    if same_pool(part(stored, 3, end), pool) == UNKNOWN {
+    if same_pool(out, part(stored, 3, end), pool) == UNKNOWN {
         return UNKNOWN;
     }
-    same_table(stored, end, manager)
+    same_table(out, stored, end, manager)
 }
 
 // The table that a line gives: its flag and count are the first words, its entries list 1.
-pub(crate) fn answer<'a>(op: u64, case: Case, words: &'a [u64], stored: &'a [u64]) -> usize {
+pub(crate) fn answer<'a>(
+    out: Stdout,
+    op: u64,
+    case: Case,
+    words: &'a [u64],
+    stored: &'a [u64],
+) -> usize {
     let first = first_words(words);
     let table = table_of(case.list(words, 1), first.w1, first.w0);
     match op {
-        ops::BUILD => built(case, words, table, stored),
-        ops::GET => requested(request(table, first), stored),
-        ops::LIST => listed(table, low_32_bits(first.w2), stored),
+        ops::BUILD => built(out, case, words, table, stored),
+        ops::GET => requested(out, request(table, first), stored),
+        ops::LIST => listed(out, table, low_32_bits(first.w2), stored),
         _ => placed(
+            out,
             allocate_private_pool(table, first.w2, first.w3 == 1),
             stored,
         ),

@@ -11,6 +11,7 @@ use memory_range::at_most;
 use range_lists::{
     MergeStep, NodeCount, RangeWalkResult, SubtractStep, WalkCursor, WalkPiece, WalkStep,
 };
+use std::io::Stdout;
 
 // The most items of a list that is changed, or of one of tags.
 pub(crate) const MOST_ITEMS: usize = 1024;
@@ -58,7 +59,7 @@ fn place(i: usize) -> u64 {
 }
 
 // Starts, ends and tags afterwards.
-fn sorted<'a>(a: &'a [u64], b: &'a [u64], c: &'a [u64], stored: &'a [u64]) -> usize {
+fn sorted<'a>(out: Stdout, a: &'a [u64], b: &'a [u64], c: &'a [u64], stored: &'a [u64]) -> usize {
     let mut starts = [0u64; MOST_ITEMS];
     let mut ends = [0u64; MOST_ITEMS];
     let mut tags = [0u32; MOST_ITEMS];
@@ -70,13 +71,13 @@ fn sorted<'a>(a: &'a [u64], b: &'a [u64], c: &'a [u64], stored: &'a [u64]) -> us
         &mut ends[..end_count],
         &mut tags[..tag_count],
     );
-    let at = same_all(stored, 0, first(&starts, start_count));
-    let at = same_all(stored, at, first(&ends, end_count));
-    same_tags(stored, at, first_tags(&tags, tag_count))
+    let at = same_all(out, stored, 0, first(&starts, start_count));
+    let at = same_all(out, stored, at, first(&ends, end_count));
+    same_tags(out, stored, at, first_tags(&tags, tag_count))
 }
 
 // The count counted from 1, or 0 for full; then the nodes.
-fn inserted<'a>(words: &'a [u64], count: u64, node: u64, stored: &'a [u64]) -> usize {
+fn inserted<'a>(out: Stdout, words: &'a [u64], count: u64, node: u64, stored: &'a [u64]) -> usize {
     let mut nodes = [0u32; MOST_ITEMS];
     let len = copy_tags(words, &mut nodes);
     let count = match range_lists::insert_node(
@@ -87,8 +88,8 @@ fn inserted<'a>(words: &'a [u64], count: u64, node: u64, stored: &'a [u64]) -> u
         NodeCount::Count(n) => place(n),
         NodeCount::Full => 0,
     };
-    let at = same_word(stored, 0, count);
-    same_tags(stored, at, first_tags(&nodes, len))
+    let at = same_word(out, stored, 0, count);
+    same_tags(out, stored, at, first_tags(&nodes, len))
 }
 
 // A piece: its ends, and the places of the items that hold it.
@@ -103,14 +104,21 @@ fn piece_row(piece: WalkPiece) -> Row {
     }
 }
 
-fn walked<'a>(a: &'a [u64], b: &'a [u64], c: &'a [u64], d: &'a [u64], stored: &'a [u64]) -> usize {
+fn walked<'a>(
+    out: Stdout,
+    a: &'a [u64],
+    b: &'a [u64],
+    c: &'a [u64],
+    d: &'a [u64],
+    stored: &'a [u64],
+) -> usize {
     let mut at = 0;
     let mut cursor = WalkCursor::start();
     for _ in 0..MOST_STEPS {
         match range_lists::walk_ranges(a, b, c, d, cursor) {
             WalkStep::End => return at,
             WalkStep::Piece(piece, next) => {
-                at = same_row(stored, at, piece_row(piece));
+                at = same_row(out, stored, at, piece_row(piece));
                 cursor = next;
             }
         }
@@ -120,6 +128,7 @@ fn walked<'a>(a: &'a [u64], b: &'a [u64], c: &'a [u64], d: &'a [u64], stored: &'
 
 // Each part: its ends, and its item's place.
 fn subtracted<'a>(
+    out: Stdout,
     a: &'a [u64],
     b: &'a [u64],
     c: &'a [u64],
@@ -133,7 +142,7 @@ fn subtracted<'a>(
             SubtractStep::End => return at,
             SubtractStep::Range(rest, next) => {
                 let row = three(rest.range.start, rest.range.end, place(rest.item));
-                at = same_row(stored, at, row);
+                at = same_row(out, stored, at, row);
                 cursor = next;
             }
         }
@@ -142,7 +151,13 @@ fn subtracted<'a>(
 }
 
 // Each joined range: its ends and its tag.
-fn merged<'a>(a: &'a [u64], b: &'a [u64], tags: &'a [u32], stored: &'a [u64]) -> usize {
+fn merged<'a>(
+    out: Stdout,
+    a: &'a [u64],
+    b: &'a [u64],
+    tags: &'a [u32],
+    stored: &'a [u64],
+) -> usize {
     let mut at = 0;
     let mut index = 0;
     for _ in 0..MOST_STEPS {
@@ -150,7 +165,7 @@ fn merged<'a>(a: &'a [u64], b: &'a [u64], tags: &'a [u32], stored: &'a [u64]) ->
             MergeStep::End => return at,
             MergeStep::Range(joined, next) => {
                 let row = three(joined.range.start, joined.range.end, joined.tag as u64);
-                at = same_row(stored, at, row);
+                at = same_row(out, stored, at, row);
                 index = next;
             }
         }
@@ -158,24 +173,36 @@ fn merged<'a>(a: &'a [u64], b: &'a [u64], tags: &'a [u32], stored: &'a [u64]) ->
     UNKNOWN
 }
 
-fn merged_words<'a>(a: &'a [u64], b: &'a [u64], c: &'a [u64], stored: &'a [u64]) -> usize {
+fn merged_words<'a>(
+    out: Stdout,
+    a: &'a [u64],
+    b: &'a [u64],
+    c: &'a [u64],
+    stored: &'a [u64],
+) -> usize {
     let mut tags = [0u32; MOST_ITEMS];
     let count = copy_tags(c, &mut tags);
-    merged(a, b, &tags[..count], stored)
+    merged(out, a, b, &tags[..count], stored)
 }
 
 // Lists of starts, ends and tags; of nodes, with a count and a node; or of starts and ends of two kinds.
-pub(crate) fn answer<'a>(op: u64, case: Case, words: &'a [u64], stored: &'a [u64]) -> usize {
+pub(crate) fn answer<'a>(
+    out: Stdout,
+    op: u64,
+    case: Case,
+    words: &'a [u64],
+    stored: &'a [u64],
+) -> usize {
     let a = case.list(words, 0);
     let b = case.list(words, 1);
     let c = case.list(words, 2);
     match op {
-        ops::RANGES_VALID => same_word(stored, 0, memory_range::ranges_valid(a, b) as u64),
-        ops::RANGES_ASCEND => same_word(stored, 0, memory_range::ranges_ascend(a, b) as u64),
-        ops::SORT_BY_START => sorted(a, b, c, stored),
-        ops::INSERT_NODE => inserted(a, word_at(b, 0), word_at(c, 0), stored),
-        ops::MERGE_ADJACENT_RANGES => merged_words(a, b, c, stored),
-        ops::WALK_RANGES => walked(a, b, c, case.list(words, 3), stored),
-        _ => subtracted(a, b, c, case.list(words, 3), stored),
+        ops::RANGES_VALID => same_word(out, stored, 0, memory_range::ranges_valid(a, b) as u64),
+        ops::RANGES_ASCEND => same_word(out, stored, 0, memory_range::ranges_ascend(a, b) as u64),
+        ops::SORT_BY_START => sorted(out, a, b, c, stored),
+        ops::INSERT_NODE => inserted(out, a, word_at(b, 0), word_at(c, 0), stored),
+        ops::MERGE_ADJACENT_RANGES => merged_words(out, a, b, c, stored),
+        ops::WALK_RANGES => walked(out, a, b, c, case.list(words, 3), stored),
+        _ => subtracted(out, a, b, c, case.list(words, 3), stored),
     }
 }

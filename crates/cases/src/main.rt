@@ -19,10 +19,19 @@ mod tables;
 mod texts;
 mod words;
 
-fn main() {
-    let mut name = io::buffer();
-    for i in 1..os::arg_count() {
-        let len = os::arg(i, &mut name);
-        file::replay_file(&name[..len]);
+use std::env::FillError;
+use std::rt::Env;
+
+// No path is longer.
+const MOST_NAME: usize = 4096;
+
+fn main(rt: HostRuntime) {
+    let mut name = [0u8; MOST_NAME];
+    for i in 1..usize::MAX {
+        match rt.arg(i, &mut name) {
+            Ok(len) => file::replay_file(&rt, &name[..len]),
+            Err(FillError::TooLong) => file::replay_file(&rt, &name[..0]),
+            Err(FillError::NotPresent) => return,
+        }
     }
 }

@@ -12,15 +12,16 @@ use plan::{OUTPUT_SIZE, Planned};
 use plan_output::{
     LINE_SIZE, Put, put_number, put_word, write_got, write_map, write_no, write_pool, write_ram,
 };
+use std::io::Stdout;
 
 // What was put in eight bytes: 1 and the place behind it, or 0, and the bytes.
-fn put_in(behind: Put, buffer: &[u8; 8], stored: &[u64], output: &mut [u8]) -> Answer {
+fn put_in(out: Stdout, behind: Put, buffer: &[u8; 8], stored: &[u64], output: &mut [u8]) -> Answer {
     let row = match behind {
         Put::To(place) => two(1, place as u64),
         Put::NoRoom => one(0),
     };
     Answer {
-        words: same_row(stored, 0, row),
+        words: same_row(out, stored, 0, row),
         bytes: put_bytes(output, 0, buffer),
     }
 }
@@ -75,32 +76,38 @@ pub(crate) fn planned(text: &[u8], output: &mut [u8; OUTPUT_SIZE]) -> Answer {
     }
 }
 
-fn number_put(given: First, stored: &[u64], output: &mut [u8]) -> Answer {
+fn number_put(out: Stdout, given: First, stored: &[u64], output: &mut [u8]) -> Answer {
     let mut buffer = [b'.'; 8];
     let behind = put_number(&mut buffer, given.w0 as usize, given.w1);
-    put_in(behind, &buffer, stored, output)
+    put_in(out, behind, &buffer, stored, output)
 }
 
-fn word_put(given: First, stored: &[u64], output: &mut [u8]) -> Answer {
+fn word_put(out: Stdout, given: First, stored: &[u64], output: &mut [u8]) -> Answer {
     let mut buffer = [b'.'; 8];
     let behind = put_word(&mut buffer, given.w0 as usize, b"word");
-    put_in(behind, &buffer, stored, output)
+    put_in(out, behind, &buffer, stored, output)
 }
 
 // A line's length, and all of its buffer.
-fn line(op: u64, given: First, stored: &[u64], output: &mut [u8]) -> Answer {
+fn line(out: Stdout, op: u64, given: First, stored: &[u64], output: &mut [u8]) -> Answer {
     let mut buffer = [b'.'; LINE_SIZE];
     let len = write(op, range(given.w0, given.w1), given.w2, &mut buffer);
     Answer {
-        words: same_word(stored, 0, len as u64),
+        words: same_word(out, stored, 0, len as u64),
         bytes: put_line(output, &buffer, LINE_SIZE),
     }
 }
 
-pub(crate) fn answer(op: u64, given: First, stored: &[u64], output: &mut [u8]) -> Answer {
+pub(crate) fn answer(
+    out: Stdout,
+    op: u64,
+    given: First,
+    stored: &[u64],
+    output: &mut [u8],
+) -> Answer {
     match op {
-        ops::PUT_NUMBER => number_put(given, stored, output),
-        ops::PUT_WORD => word_put(given, stored, output),
-        _ => line(op, given, stored, output),
+        ops::PUT_NUMBER => number_put(out, given, stored, output),
+        ops::PUT_WORD => word_put(out, given, stored, output),
+        _ => line(out, op, given, stored, output),
     }
 }

@@ -9,6 +9,7 @@ use host_map::{MAP_ROOM, no_entry};
 use host_params::{
     IsolationType, MAX_VTL2_RAM_RANGES, MemoryAllocationMode, MemoryEntry, MemoryMapEntryType,
 };
+use std::io::Stdout;
 use vtl2_ram::{Selection, Vtl2Ram, select_from_array};
 
 fn entry_of(row: [u64; 4]) -> MemoryEntry {
@@ -69,10 +70,10 @@ fn ram_row(ram: Vtl2Ram, i: usize) -> Row {
 }
 
 // The places of the arrays, start, end and node of each.
-fn same_ram(stored: &[u64], at: usize, ram: Vtl2Ram) -> usize {
+fn same_ram(out: Stdout, stored: &[u64], at: usize, ram: Vtl2Ram) -> usize {
     let mut next = at;
     for i in 0..MAX_VTL2_RAM_RANGES {
-        next = same_row(stored, next, ram_row(ram, i));
+        next = same_row(out, stored, next, ram_row(ram, i));
     }
     end_of(stored, next)
 }
@@ -85,7 +86,7 @@ fn selection_row(selection: Selection) -> Row {
 }
 
 // The refusal's number; or 0, the count and the bytes. Then the arrays.
-pub(crate) fn selected<'a>(case: Case, words: &'a [u64], stored: &'a [u64]) -> usize {
+pub(crate) fn selected<'a>(out: Stdout, case: Case, words: &'a [u64], stored: &'a [u64]) -> usize {
     let ram = select(
         first_words(words),
         case.list(words, 1),
@@ -93,6 +94,6 @@ pub(crate) fn selected<'a>(case: Case, words: &'a [u64], stored: &'a [u64]) -> u
         case.list(words, 3),
     );
     let selection = ram.selection;
-    let at = same_row(stored, 0, selection_row(selection));
-    same_ram(stored, at, ram)
+    let at = same_row(out, stored, 0, selection_row(selection));
+    same_ram(out, stored, at, ram)
 }

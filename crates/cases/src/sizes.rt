@@ -3,9 +3,11 @@ use super::kinds::optional;
 use super::words::{First, Row, one, same_word, two, word_at};
 use dma_hint::PoolSize;
 use host_params::{Vtl2GpaPoolConfig, Vtl2GpaPoolLookupTable};
+use std::io::Stdout;
 
 // The hint of each processor count with the memory behind it.
 pub(crate) fn hints<'a>(
+    out: Stdout,
     table: Vtl2GpaPoolLookupTable,
     words: &'a [u64],
     stored: &'a [u64],
@@ -15,7 +17,7 @@ pub(crate) fn hints<'a>(
         let vp_count = word_at(words, 2 * i);
         let mem_size = word_at(words, 2 * i + 1);
         let pages = dma_hint::vtl2_calculate_dma_hint(table, vp_count, mem_size);
-        at = same_word(stored, at, pages);
+        at = same_word(out, stored, at, pages);
     }
     at
 }

@@ -3,6 +3,7 @@ use super::kinds::{usage, usage_number};
 use super::ranges::range;
 use super::words::{Row, end_of, four, low_32_bits, row_at, same_row, two};
 use address_space::{AddressRange, AddressSpaceManager, MAX_ADDRESS_RANGES};
+use std::io::Stdout;
 
 fn entry_of(row: [u64; 4]) -> AddressRange {
     AddressRange {
@@ -34,11 +35,16 @@ pub(crate) fn table_of(words: &[u64], count: u64, flag: u64) -> AddressSpaceMana
 }
 
 // All places, those behind the entries too.
-pub(crate) fn same_table(stored: &[u64], at: usize, table: AddressSpaceManager) -> usize {
+pub(crate) fn same_table(
+    out: Stdout,
+    stored: &[u64],
+    at: usize,
+    table: AddressSpaceManager,
+) -> usize {
     let row = two(table.count as u64, table.has_vtl2_pool() as u64);
-    let mut next = same_row(stored, at, row);
+    let mut next = same_row(out, stored, at, row);
     for i in 0..MAX_ADDRESS_RANGES {
-        next = same_row(stored, next, entry_row(table.address_space[i]));
+        next = same_row(out, stored, next, entry_row(table.address_space[i]));
     }
     end_of(stored, next)
 }

@@ -1,7 +1,7 @@
 // Words and bytes in lent buffers, and an answer compared with the words that a line stores. A place is
 // UNKNOWN behind what there is no room for, and behind a word that is not the stored one; so is the end of an
 // answer that does not end, and of one to an operation that there is not.
-use libc::STDOUT_FILENO;
+use std::io::Stdout;
 
 pub(crate) const UNKNOWN: usize = usize::MAX;
 
@@ -49,24 +49,19 @@ pub(crate) const ROW: usize = 8;
 
 // Whether a word of an answer is the stored one: the place behind it, or UNKNOWN. Behind the stored words all
 // are 0; that an answer ends where they do is seen at its end. The first word that differs is printed.
-pub(crate) fn same_word(stored: &[u64], at: usize, word: u64) -> usize {
+pub(crate) fn same_word(out: Stdout, stored: &[u64], at: usize, word: u64) -> usize {
     if at == UNKNOWN {
         return UNKNOWN;
     }
     if word_at(stored, at) == word {
         return at + 1;
     }
-    io::write_all(STDOUT_FILENO, b"word ");
-    io::print_decimal(STDOUT_FILENO, at as u64);
-    io::write_all(STDOUT_FILENO, b": stored ");
-    io::print_hex(STDOUT_FILENO, word_at(stored, at), 1);
-    io::write_all(STDOUT_FILENO, b", given ");
-    io::print_hex(STDOUT_FILENO, word, 1);
-    io::write_all(STDOUT_FILENO, b"\n");
+    let expected = word_at(stored, at);
+    let _ = println!(out; "word {at}: stored {expected:x}, given {word:x}");
     UNKNOWN
 }
 
-pub(crate) fn same_row(stored: &[u64], at: usize, row: Row) -> usize {
+pub(crate) fn same_row(out: Stdout, stored: &[u64], at: usize, row: Row) -> usize {
     if row.count == UNKNOWN {
         return UNKNOWN;
     }
@@ -75,16 +70,16 @@ pub(crate) fn same_row(stored: &[u64], at: usize, row: Row) -> usize {
         if row.count <= i {
             return next;
         }
-        next = same_word(stored, next, row.values[i]);
+        next = same_word(out, stored, next, row.values[i]);
     }
     next
 }
 
 // Whether the word in front of a list tells how many words it has: the list's end, or UNKNOWN.
-pub(crate) fn same_count(stored: &[u64], front: usize, end: usize) -> usize {
+pub(crate) fn same_count(out: Stdout, stored: &[u64], front: usize, end: usize) -> usize {
     let behind = std::num::wrapping_add_usize(front, 1);
     let count = std::num::wrapping_sub_usize(end, behind);
-    if same_word(stored, front, count as u64) == behind {
+    if same_word(out, stored, front, count as u64) == behind {
         return end;
     }
     UNKNOWN
@@ -152,10 +147,10 @@ pub(crate) fn put_all(words: &mut [u64], at: usize, more: &[u64]) -> usize {
     next
 }
 
-pub(crate) fn same_all<'a>(stored: &'a [u64], at: usize, items: &'a [u64]) -> usize {
+pub(crate) fn same_all<'a>(out: Stdout, stored: &'a [u64], at: usize, items: &'a [u64]) -> usize {
     let mut next = at;
     for i in 0..items.len() {
-        next = same_word(stored, next, items[i]);
+        next = same_word(out, stored, next, items[i]);
     }
     next
 }
@@ -164,10 +159,10 @@ pub(crate) fn wide(tag: u32) -> u64 {
     tag as u64
 }
 
-pub(crate) fn same_tags<'a>(stored: &'a [u64], at: usize, tags: &'a [u32]) -> usize {
+pub(crate) fn same_tags<'a>(out: Stdout, stored: &'a [u64], at: usize, tags: &'a [u32]) -> usize {
     let mut next = at;
     for i in 0..tags.len() {
-        next = same_word(stored, next, wide(tags[i]));
+        next = same_word(out, stored, next, wide(tags[i]));
     }
     next
 }
