@@ -77,7 +77,7 @@ fn no_entries() -> [MemoryEntry; MAX_PARTITION_RAM_RANGES]
     [no_entry(); MAX_PARTITION_RAM_RANGES]
 }
 
-// The map is lent as the caller's own list, so this is proved by walking its code by hand.
+// The map is lent as the caller's own list of entries.
 pub fn copy_entries(map: &[MemoryEntry]) -> Entries
     ensures { result ≡ entries_held map.now }
 {
