@@ -1,2 +1,0 @@
--- What the proofs of the two requests in place share.
-pub mod Laws
