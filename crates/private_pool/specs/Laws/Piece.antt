@@ -15,7 +15,7 @@ pages_in (p ∷ ps) = p.pages + pages_in ps
 -- one piece for each node, in the order of the nodes
 from-nodes : (share left n : ℕ) (ns : List ℕ) → nodes_of (pieces_from share left n ns) ≡ n ∷ ns
 from-nodes share left n [] = refl
-from-nodes share left n (m ∷ ns) = ap (n ∷◌) (from-nodes share _ m ns)
+from-nodes share left n (m ∷ ns) = ap (n ∷◌) (from-nodes share (left - share) m ns)
 
 pub pieces-nodes : (pages : ℕ) (ns : List ℕ) → nodes_of (split_pieces pages ns) ≡ ns
 pieces-nodes pages [] = refl
