@@ -1,9 +1,7 @@
 -- What a field stands for is spelled by that field, and by no other; and no spelling holds a tab or a newline.
-use Rattle.std.specs.Prelude.{ℕ, ◌*◌, ◌+◌, ◌^◌, ◌≤◌, ◌<◌, ◌≡◌, refl, Bool, true, false, cond, ◌&&◌, not, List, [], ◌∷◌, eqb, leb, length}
+use Rattle.std.specs.Prelude.{ℕ, ◌^◌, ◌<◌, ◌≡◌, refl, Bool, true, false, cond, List, [], ◌∷◌, leb}
 use Prim.Native.String.{String}
-use Rattle.std.proofs.Common.{ap, sym, ◌∙◌, arith, eqb-true, leb-true, le-leb}
-use Rattle.std.proofs.lemmas.Bool.{false≢true, not-true}
-use Rattle.std.proofs.Math.Bool.{and-eq-true_iff}
+use Rattle.std.proofs.Common.{ap, sym, ◌∙◌, arith, leb-true, le-leb}
 use Rattle.std.proofs.Math.Option.{Option, none, some, some-injective, none-ne-some}
 use Rattle.memory_range.specs.Bytes.{All}
 use Rattle.host_params.specs.declared.AllocationPolicy.{AllocationPolicy}
@@ -23,18 +21,15 @@ use Rattle.host_params.specs.declared.OptionU64.{OptionU64}
 use Rattle.host_params.specs.declared.OptionU64.TheVariants as u64
 use Rattle.host_params.specs.declared.Vtl2GpaPoolConfig.{Vtl2GpaPoolConfig}
 use Rattle.host_params.specs.declared.Vtl2GpaPoolConfig.TheVariants.{Heuristics, Off, Pages}
-use Rattle.host_params.specs.declared.Vtl2GpaPoolLookupTable.{Vtl2GpaPoolLookupTable}
 use Rattle.host_params.specs.declared.Vtl2GpaPoolLookupTable.TheVariants.{Release, Debug}
-use Rattle.plan_fields.specs.Cut.{tab, newline}
 use Rattle.plan_fields.specs.Word.{ascii, same_bytes, after, lookup}
-use Rattle.plan_fields.specs.Number.{between, digit_of, spelled_from, zero_in_front, number_of}
-use Rattle.plan_fields.specs.Laws.Cut.{Without}
-use Rattle.plan_fields.specs.Laws.Number.{number_bound, spelled_digit, spelled_none}
+use Rattle.plan_fields.specs.Number.{number_of}
+use Rattle.plan_fields.specs.Laws.Number.{number_bound}
 use Rattle.plan_fields.specs.Laws.Word.{same_eq, after-some}
 use Rattle.plan_record.specs.Value.{modes, mode_of, isolations, isolation_of, entry_types, entry_type_of, policies, policy_of, kinds, kind_of, splits, split_of, absent, optional_of, node_from, node_of, optional_node_of, kinds_without_pages, kind_without_pages, config_of}
 use Rattle.plan_output.specs.Number.{hex_of}
 use Rattle.plan_output.specs.Laws.Number.{read-hex, hex-read}
-use Rattle.line_claims.specs.Spelling.{mode_word, isolation_word, entry_type_word, policy_word, kind_word, split_word, table_word, config_word, pages_for, optional_for, optional_node_for, SizedOption, SizedNode, SizedConfig}
+use Rattle.line_claims.specs.Spelling.{mode_word, isolation_word, entry_type_word, policy_word, kind_word, split_word, config_word, pages_for, optional_for, optional_node_for, SizedOption, SizedNode, SizedConfig}
 
 -- what holds of a field that is the word of a row and of the row's value, for every row, holds of what is looked up
 looked_up : {A : Type 0} (P : List ℕ → A → Type 0) (rows : List (String × A)) (f : List ℕ) (v : A) → lookup rows f ≡ some v

@@ -1,6 +1,6 @@
 -- A line that has a record has at most 63 bytes.
 use Rattle.std.specs.Prelude.{ℕ, ◌+◌, ◌^◌, ◌≤◌, ◌<◌, ◌≡◌, Bool, true, false, List, [], ◌∷◌, length}
-use Rattle.std.proofs.Common.{ap, arith, length-append}
+use Rattle.std.proofs.Common.{arith, length-append}
 use Rattle.std.proofs.Math.Option.{some}
 use Rattle.memory_range.specs.declared.range.MemoryRange.{MemoryRange}
 use Rattle.host_params.specs.declared.AllocationPolicy.{AllocationPolicy}
@@ -28,8 +28,8 @@ use Rattle.plan_record.specs.declared.record.Record.TheVariants.{Shape, File, Me
 use Rattle.plan_record.specs.Record.{line_of}
 use Rattle.plan_output.specs.Number.{hex_of}
 use Rattle.plan_output.specs.Laws.Number.{hex-length}
-use Rattle.line_claims.specs.Laws.Record.{line_spelled}
-use Rattle.line_claims.specs.Spelling.{mode_word, isolation_word, entry_type_word, policy_word, kind_word, split_word, config_word, pages_for, optional_for, optional_node_for, fields_for, line_for}
+use Rattle.line_claims.proofs.Laws.Record.{line_spelled}
+use Rattle.line_claims.specs.Spelling.{mode_word, isolation_word, entry_type_word, policy_word, kind_word, split_word, config_word, pages_for, optional_for, optional_node_for, line_for}
 use Rattle.line_claims.specs.Spelling.{SizedOption, SizedNode, SizedConfig, SizedRange, Sized}
 
 -- the bytes of the longest line: `pool`, `pages`, three numbers of 16 digits, `y` or `n`, and a tab between each two

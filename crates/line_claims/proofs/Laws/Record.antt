@@ -1,5 +1,5 @@
 -- The line of a record is the one that spells it: what is read from it is the record, and no other line is read as it.
-use Rattle.std.specs.Prelude.{ℕ, ◌^◌, ◌<◌, ◌≡◌, refl, Bool, true, false, cond, List, [], ◌∷◌, eqb, length}
+use Rattle.std.specs.Prelude.{ℕ, ◌≡◌, refl, Bool, true, false, cond, List, [], ◌∷◌, eqb, length}
 use Rattle.std.proofs.Common.{ap, ap₂, sym, ◌∙◌, arith, eqb-true}
 use Rattle.std.proofs.Math.Option.{Option, none, some, some-injective, none-ne-some}
 use Rattle.memory_range.specs.Bytes.{All}
@@ -16,10 +16,10 @@ use Rattle.plan_record.specs.Value.{mode_of, isolation_of, entry_type_of, policy
 use Rattle.plan_output.specs.Number.{hex_of}
 use Rattle.plan_output.specs.Laws.Number.{read-hex}
 use Rattle.line_claims.specs.Spelling.{fields_for, line_for, Sized, SizedRange}
-use Rattle.line_claims.specs.Laws.Plain.{fields_apart}
-use Rattle.line_claims.specs.Laws.Field.{mode-read, mode_spelled, isolation-read, isolation_spelled, entry_type-read, entry_type_spelled}
-use Rattle.line_claims.specs.Laws.Field.{policy-read, policy_spelled, kind-read, kind_spelled, split-read, split_spelled, number_spelled}
-use Rattle.line_claims.specs.Laws.Field.{optional-read, optional_spelled, node-read, node_spelled, optional-node-read, optional-node_spelled, config-read, config_spelled}
+use Rattle.line_claims.proofs.Laws.Plain.{fields_apart}
+use Rattle.line_claims.proofs.Laws.Field.{mode-read, mode_spelled, isolation-read, isolation_spelled, entry_type-read, entry_type_spelled}
+use Rattle.line_claims.proofs.Laws.Field.{policy-read, policy_spelled, kind-read, kind_spelled, split-read, split_spelled, number_spelled}
+use Rattle.line_claims.proofs.Laws.Field.{optional-read, optional_spelled, node-read, node_spelled, optional-node-read, optional-node_spelled, config-read, config_spelled}
 
 -- the fields of a record are read as the record
 range-read : (r : MemoryRange) → SizedRange r → range_of (hex_of r.start ∷ hex_of r.end ∷ []) ≡ some r
