@@ -38,10 +38,9 @@ place_pieces-requires c =
 
 pub returns : goal.returns
 returns c =
-    let d = c.before.before.before.before in
-    let a = d.args in
+    let a = c.args in
     let es = entries_of a.manager in
-    let t = d.table_nodes-count in
+    let t = c.table_nodes-count in
     let n = t.ensures.0 in
     let good = split_good a.pages es (λ h. c.if-count-eq0.false (n ∙ h)) (rw n at c.if-pages-count.false) in
     c.place_pieces.ensures ∙ rw (good, nodes-taken (table_nodes es) no_nodes n t.ensures.2)
