@@ -1,7 +1,7 @@
 -- The step at a place of the text by the first bytes from there on, as many as the longest line has with its newline. `room` is
 -- how many of them there are, and `line` what is in front of the first newline among them.
 use Prim.Native.Nat.{ℕ, ◌+◌, ◌-◌, ◌≤◌, ◌<◌, min}
-use mathlib.Core.Path.{◌≡◌, refl, ap, sym, ◌∙◌}
+use mathlib.Core.Path.{◌≡◌, refl, ap, ◌∙◌}
 use mathlib.Core.List.{List}
 use mathlib.Core.Option.{Option, none, some}
 use native.Mathlib.Omega.{arith}
@@ -12,7 +12,7 @@ use Rattle.plan_fields.specs.Cut.{newline, first_part}
 use Rattle.plan_fields.specs.Laws.Cut.{first-length, first-take}
 use Rattle.plan_record.specs.declared.record.Record.{Record}
 use Rattle.plan_record.specs.Record.{line_of}
-use Rattle.line_claims.specs.Laws.Short.{line-short}
+use Rattle.line_claims.proofs.Laws.Short.{line-short}
 use Rattle.plan_text.specs.declared.text.RecordStep.TheVariants as step
 use Rattle.plan_text.specs.Text.{line_at, line_step, record_step}
 use Rattle.plan_text.specs.Laws.Text.{step-at_last, step-at_line}

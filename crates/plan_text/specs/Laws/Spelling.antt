@@ -10,8 +10,8 @@ use Rattle.plan_record.specs.declared.record.Record.{Record}
 use Rattle.plan_record.specs.declared.record.Record.TheVariants.{Shape, File, Mem, Import, Used, State, Config, Keep, Side, Tables, Log, Gpool, Pool, Get}
 use Rattle.plan_record.specs.Record.{field, forms, word_in, line_of}
 use Rattle.line_claims.specs.Spelling.{fields_for, line_for, Sized}
-use Rattle.line_claims.specs.Laws.Plain.{line-without}
-use Rattle.line_claims.specs.Laws.Record.{line_read, line_spelled}
+use Rattle.line_claims.proofs.Laws.Plain.{line-without}
+use Rattle.line_claims.proofs.Laws.Record.{line_read, line_spelled}
 use Rattle.plan_text.specs.declared.text.TextCheck.TheVariants.{Accepted}
 use Rattle.plan_text.specs.Order.{place_of, in_order_of}
 use Rattle.plan_text.specs.Spelling.{text_for}
