@@ -1,13 +1,17 @@
 // Reads a plan text on standard input and writes its plan.
 #![tactic(auto)]
 
-ghost use Rattle.std.specs.Prelude.{◌≤◌, length};
-ghost use Rattle.bootplan.specs.Input.{bytes_in};
+ghost use Rattle.std.specs.Prelude.{◌≤◌, length, IfSome, OnOk};
+ghost use Rattle.std.specs.Io.KnownBytes.{Appends};
+ghost use Rattle.plan.specs.Planner.{plan_of};
+ghost use Rattle.bootplan.specs.Input.{bytes_in, ReadsFirst};
+ghost use Rattle.bootplan.specs.Output.{plan_bytes, output_for};
 
 use plan::{OUTPUT_SIZE, Planned, plan};
 use plan_output::{LINE_SIZE, write_no};
 use plan_text::TEXT_SIZE;
-use std::io::Read;
+use std::io;
+use std::io::{Read, Write};
 
 // One byte more than a text may have, so that a text that is too long shows.
 const INPUT_SIZE: usize = TEXT_SIZE + 1;
@@ -21,7 +25,8 @@ enum Input {
 
 // Reads to the end of the input, or until the buffer is full.
 fn read_input<R: Read>(input: &mut R, buffer: &mut [u8]) -> Input
-    ensures { bytes_in result ≤ length buffer.new }
+    ensures within { bytes_in result ≤ length buffer.new }
+    ensures text { IfSome (R.remaining input.old) (ReadsFirst result buffer.new) }
 {
     let mut len = 0;
     while len < buffer.len() {
@@ -34,33 +39,52 @@ fn read_input<R: Read>(input: &mut R, buffer: &mut [u8]) -> Input
     Input::Read(len)
 }
 
+// Writes the plan of a text, or the line of its refusal.
+fn write_plan<W: Write>(output: &mut W, text: &[u8]) -> io::Result<()>
+    ensures { OnOk result (Appends (W.contents output.old) (W.contents output.new) (plan_bytes (plan_of text.now))) }
+{
+    let mut buffer = [0u8; OUTPUT_SIZE];
+    match plan(text, &mut buffer) {
+        Planned::Written(len) => output.write_all(&buffer[..len]),
+        Planned::Refused(number) => {
+            let mut line = [0u8; LINE_SIZE];
+            let len = write_no(&mut line, number);
+            output.write_all(&line[..len])
+        }
+    }
+}
+
+// Why there is no plan, or not all of it.
+#[derive(Clone, Copy)]
+enum Failure {
+    Input,
+    Output,
+}
+
+// Reads a text and writes its plan.
+fn run<R: Read, W: Write>(input: &mut R, output: &mut W) -> Result<(), Failure>
+    ensures { OnOk result (IfSome (R.remaining input.old) (λ given.
+        Appends (W.contents output.old) (W.contents output.new) (output_for given))) }
+{
+    let mut buffer = [0u8; INPUT_SIZE];
+    match read_input(input, &mut buffer) {
+        Input::Read(len) => match write_plan(output, &buffer[..len]) {
+            Ok(()) => Ok(()),
+            Err(_) => Err(Failure::Output),
+        },
+        Input::Failed => Err(Failure::Input),
+    }
+}
+
 // Where nothing can be said on standard error either, nothing is said.
 fn say(rt: &impl Eprint, what: &str) {
     let _ = rt.eprintln(what);
 }
 
-fn write_output(rt: &(impl Print + Eprint), bytes: &[u8]) {
-    if rt.write_all(bytes).is_err() {
-        say(rt, "bootplan: the output could not be written");
-    }
-}
-
-fn write_plan(rt: &(impl Print + Eprint), text: &[u8]) {
-    let mut output = [0u8; OUTPUT_SIZE];
-    match plan(text, &mut output) {
-        Planned::Written(len) => write_output(rt, &output[..len]),
-        Planned::Refused(number) => {
-            let mut line = [0u8; LINE_SIZE];
-            let len = write_no(&mut line, number);
-            write_output(rt, &line[..len]);
-        }
-    }
-}
-
 fn main(rt: HostRuntime) {
-    let mut buffer = [0u8; INPUT_SIZE];
-    match read_input(&mut rt.stdin(), &mut buffer) {
-        Input::Read(len) => write_plan(&rt, &buffer[..len]),
-        Input::Failed => say(&rt, "bootplan: the input could not be read"),
+    match run(&mut rt.stdin(), &mut io::writer(&rt)) {
+        Ok(()) => {}
+        Err(Failure::Input) => say(&rt, "bootplan: the input could not be read"),
+        Err(Failure::Output) => say(&rt, "bootplan: the output could not be written"),
     }
 }

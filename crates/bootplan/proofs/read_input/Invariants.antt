@@ -1,10 +1,13 @@
--- `read_input` answers no more bytes than there is room for: what was read so far lies within the buffer,
--- which keeps its length. Each turn reads a byte at least.
-use Rattle.std.proofs.Common.{length, ◌-◌, ◌≡◌, ◌≤◌}
+-- `read_input`: what was read so far lies within the buffer, which keeps its length, and is what the input lost.
+-- Each turn reads a byte at least.
+use Rattle.std.proofs.Common.{length, take, ◌-◌, ◌≡◌, ◌≤◌}
+use Rattle.std.specs.Io.KnownBytes.{Consumes}
 use Rattle.bootplan.proofs.read_input.Given as goal
 
 abbrev pub invariant-loop-len : goal.invariant-loop-len
-invariant-loop-len g l = (l.len ≤ length l.buffer) × (length l.buffer ≡ length l.initial.buffer)
+invariant-loop-len g l =
+    (l.len ≤ length l.buffer) × (length l.buffer ≡ length l.initial.buffer)
+    × Consumes (g.R.Read.remaining l.initial.input) (g.R.Read.remaining l.input) (take l.len l.buffer)
 
 abbrev pub decreases-loop-len : goal.decreases-loop-len
 decreases-loop-len g l = length l.initial.buffer - l.len
