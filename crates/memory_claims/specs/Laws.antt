@@ -1,5 +1,6 @@
--- The claims, proved of the definitions (Request, Build) and of the table's value (Kept), the rows as rules (BuildRule, RequestRule), and the
--- laws on the way to them.
+-- The claims, proved of the definitions (Build) and of the table's value (Kept), the rows of a request as rules (RequestRule), and the laws
+-- on the way to them. What rests on a definition that an edit of must-fail/ changes is proved in proofs/: requests (Part, Placed, Request,
+-- Kept) and the rows of a build as rules (BuildRule).
 pub mod Notes
 pub mod Split
 pub mod Part
@@ -14,6 +15,5 @@ pub mod Used
 pub mod Build
 pub mod Example
 pub mod Kept
-pub mod BuildRule
 pub mod RequestRule
 pub mod Wrong

@@ -1,4 +1,4 @@
--- The claims of the table's value: what a request and a build leave in it.
+-- The claim of the table's value after a build (after a request: proofs/Kept).
 use Rattle.std.specs.Prelude.{ℕ, ◌%◌, ◌<◌, ◌≡◌, refl, true, ◌||◌, List, length}
 use Rattle.memory_range.specs.declared.range.MemoryRange.{MemoryRange}
 use Rattle.memory_range.specs.declared.range.TaggedRange.{TaggedRange}
@@ -18,28 +18,6 @@ use Rattle.memory.specs.declared.builder.AddressSpaceManagerBuilder.{AddressSpac
 use Rattle.memory.specs.Build.{built, build, has_pool, init_as}
 use Rattle.memory_claims.specs.Claim.{Sound, Of64Bits, Built}
 use Rattle.memory_claims.specs.Laws.Build.{build_claimed}
-use Rattle.memory_claims.specs.Laws.Request.{allocated-handed, requested-handed}
-
-module _ (m : AddressSpaceManager) (asked : OptionU32) (len : ℕ) (type : AllocationType) (policy : AllocationPolicy) (alignment : OptionU64)
-    (ram : List TaggedRange) (sound : Sound ram (entries_of m)) (bits : Of64Bits alignment) where
-  -- the table is as found after a refusal, and else has the entries of the outcome
-  outcome-keeps : (o : Outcome) → ((x : AllocatedRange) (es : List AddressRange) → o ≡ handed x es → Sound ram es)
-      → Sound ram (entries_of (allocation_as m type o).manager)
-  outcome-keeps (refused n) f = sound
-  outcome-keeps (handed x es) f = rw (entries_with m es (pool_of m || is_pool type)) (f x es refl)
-
-  -- a request leaves a sound table, whether it is refused or not
-  pub request-keeps : Sound ram (entries_of (allocation_as m type (requested asked len type policy alignment (entries_of m))).manager)
-  request-keeps =
-      outcome-keeps (requested asked len type policy alignment (entries_of m))
-      (λ x es e. (requested-handed asked len type policy alignment (entries_of m) ram x es sound bits e).0)
-
-  -- so do the search and the split alone, for a length in whole pages
-  pub core-keeps : len % page_size ≡ 0 → 0 < len → alignment_good alignment ≡ true
-      → Sound ram (entries_of (allocation_as m type (allocated asked len type policy alignment (entries_of m))).manager)
-  core-keeps pages some_bytes good =
-      outcome-keeps (allocated asked len type policy alignment (entries_of m))
-      (λ x es e. (allocated-handed asked len type policy alignment (entries_of m) ram x es sound pages some_bytes good bits e).0)
 
 -- a build that is not refused leaves a table of which the claims of a build hold
 pub init_claimed : (m : AddressSpaceManager) (b : AddressSpaceManagerBuilder) (ram : List TaggedRange) (configs pools : List MemoryRange)

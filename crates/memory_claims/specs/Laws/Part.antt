@@ -45,7 +45,7 @@ power-page k = go (dec_le 12 k)
     go (no h) = let e : 12 ≡ (12 - k) + k = omega arith in inr (2 ^ (12 - k), ap (λ (n : ℕ). 2 ^ n) e ∙ power-sum (12 - k) k)
 
 -- the aligned part of a valid range lies inside it where it has a byte
-inside_aligned : (alignment : OptionU64) (r : MemoryRange) → (aligned_to alignment r).start < (aligned_to alignment r).end
+pub inside_aligned : (alignment : OptionU64) (r : MemoryRange) → (aligned_to alignment r).start < (aligned_to alignment r).end
     → (r.start ≤ (aligned_to alignment r).start) × ((aligned_to alignment r).end ≤ r.end)
 inside_aligned (number.Some m) r h = ⊎_elim (λ w. absurd (omega arith)) (λ w. (w.1, w.2)) (contained r (aligned_part m r) (aligned_inside m r))
 inside_aligned number.None r h = (omega arith, omega arith)
@@ -62,11 +62,11 @@ whole_aligned m r v d =
     ⊎_elim (λ g. absurd (omega arith)) (λ g. let i = inner (omega arith) in (omega arith, omega arith)) outer
 
 -- the aligned part of a valid range has ends that are multiples of the alignment, and starts and ends at a page
-abbrev EndsAligned : OptionU64 → MemoryRange → Type 0
+abbrev pub EndsAligned : OptionU64 → MemoryRange → Type 0
 EndsAligned (number.Some m) r = Multiple m r.start × Multiple m r.end
 EndsAligned number.None r = Unit {0}
 
-ends_aligned : (alignment : OptionU64) (r : MemoryRange) → EndsAligned alignment (aligned_to alignment r)
+pub ends_aligned : (alignment : OptionU64) (r : MemoryRange) → EndsAligned alignment (aligned_to alignment r)
 ends_aligned (number.Some m) r = aligned-ends m r
 ends_aligned number.None r = tt
 
@@ -80,7 +80,7 @@ power_aligned m r v (inr d) =
     let w = valid-parts r v in
     (rw same.0 w.1, rw same.1 w.2)
 
-pages_aligned : (alignment : OptionU64) (r : MemoryRange) → Of64Bits alignment → alignment_good alignment ≡ true → valid_range r ≡ true
+pub pages_aligned : (alignment : OptionU64) (r : MemoryRange) → Of64Bits alignment → alignment_good alignment ≡ true → valid_range r ≡ true
     → ((aligned_to alignment r).start % page_size ≡ 0) × ((aligned_to alignment r).end % page_size ≡ 0)
 pages_aligned (number.Some m) r bits good v =
     let power = (power_of-two m bits).0 good in
@@ -89,14 +89,14 @@ pages_aligned number.None r bits good v = let w = valid-parts r v in (w.1, w.2)
 
 -- so many bytes of a range that has them: they lie in it, and at the end of it that the policy names
 module _ (policy : AllocationPolicy) (len : ℕ) (r : MemoryRange) (some_bytes : 0 < len) (enough : len ≤ length_of r) where
-  allotted_inside : (r.start ≤ (allotted policy len r).start) × ((allotted policy len r).end ≤ r.end) × (length_of (allotted policy len r) ≡ len)
+  pub allotted_inside : (r.start ≤ (allotted policy len r).start) × ((allotted policy len r).end ≤ r.end) × (length_of (allotted policy len r) ≡ len)
   allotted_inside = go policy
     where
       go : (p : AllocationPolicy) → (r.start ≤ (allotted p len r).start) × ((allotted p len r).end ≤ r.end) × (length_of (allotted p len r) ≡ len)
       go LowMemory = (omega arith, omega arith, omega arith)
       go HighMemory = (omega arith, omega arith, omega arith)
 
-  allotted-pages : r.start % page_size ≡ 0 → r.end % page_size ≡ 0 → len % page_size ≡ 0
+  pub allotted-pages : r.start % page_size ≡ 0 → r.end % page_size ≡ 0 → len % page_size ≡ 0
       → ((allotted policy len r).start % page_size ≡ 0) × ((allotted policy len r).end % page_size ≡ 0)
   allotted-pages p q l = go policy
     where
@@ -104,32 +104,16 @@ module _ (policy : AllocationPolicy) (len : ℕ) (r : MemoryRange) (some_bytes :
       go LowMemory = (omega arith, omega arith)
       go HighMemory = (omega arith, omega arith)
 
-allotted_aligned : (policy : AllocationPolicy) (len : ℕ) (alignment : OptionU64) (r : MemoryRange) → EndsAligned alignment r
+pub allotted_aligned : (policy : AllocationPolicy) (len : ℕ) (alignment : OptionU64) (r : MemoryRange) → EndsAligned alignment r
     → AlignedAt policy alignment (allotted policy len r)
 allotted_aligned LowMemory len (number.Some m) r h = h.0
 allotted_aligned LowMemory len number.None r h = tt
 allotted_aligned HighMemory len (number.Some m) r h = h.1
 allotted_aligned HighMemory len number.None r h = tt
 
--- what a valid range gives a request for so many bytes: used
+-- what a valid range gives a request for so many bytes: used (it does: `given`, proofs/Part)
 pub record Given (policy : AllocationPolicy) (len : ℕ) (alignment : OptionU64) (r used : MemoryRange) : Type 0 where
   pub length : length_of used ≡ len
   pub inside : Inside used r
   pub valid : valid_range used ≡ true
   pub aligned : AlignedAt policy alignment used
-
-pub given : (policy : AllocationPolicy) (len : ℕ) (alignment : OptionU64) (r : MemoryRange) → len % page_size ≡ 0 → 0 < len
-    → alignment_good alignment ≡ true → Of64Bits alignment → valid_range r ≡ true → len ≤ length_of (aligned_to alignment r)
-    → Given policy len alignment r (allotted policy len (aligned_to alignment r))
-given policy len alignment r pages some_bytes good bits valid enough =
-    let part = aligned_to alignment r in
-    let outer = inside_aligned alignment r (omega arith) in
-    let inner = allotted_inside policy len part some_bytes enough in
-    let ends = pages_aligned alignment r bits good valid in
-    let at-pages = allotted-pages policy len part some_bytes enough ends.0 ends.1 pages in
-    record {
-      length = inner.2;
-      inside = (omega arith, omega arith, omega arith);
-      valid = valid-range (allotted policy len part) (omega arith) at-pages.0 at-pages.1;
-      aligned = allotted_aligned policy len alignment part (ends_aligned alignment r);
-    }

@@ -28,7 +28,6 @@ use Rattle.address_space.specs.Table.{max_address_ranges, ranges_at}
 use Rattle.address_space.specs.Usage.{is_free, usage_for}
 use Rattle.memory_claims.specs.Claim.{noded_ranges, Note, note, note_at, InRam, Sound, Handed, Of64Bits}
 use Rattle.memory_claims.specs.Laws.Notes.{counted_on, note-holders, note-holders-on}
-use Rattle.memory_claims.specs.Laws.Part.{given}
 use Rattle.memory_claims.specs.Laws.Ram.{part_in-ram}
 use Rattle.memory_claims.specs.Laws.Split.{entry-valid, split-ordered, split-valid, split-all, split_was, split_now, split_others}
 
@@ -57,7 +56,7 @@ module _ (x : AllocatedRange) (xs : List AddressRange) where
 
 module _ (len : ℕ) (type : AllocationType) (policy : AllocationPolicy) (alignment : OptionU64) where
   -- what is handed out of an entry
-  abbrev outcome : AddressRange → AllocatedRange
+  abbrev pub outcome : AddressRange → AllocatedRange
   outcome e = record { range = allotted policy len (aligned_to alignment e.range); vnode = e.vnode }
 
   -- an entry that was found is no want of a fit
@@ -89,7 +88,7 @@ module _ (asked : OptionU32) (len : ℕ) (type : AllocationType) (policy : Alloc
         go true h = rw (gives.was_free a h, gives.now-used a h) (same x.vnode (usage_for type) Free)
         go false h = rw (gives.others a h)
 
-    stays_sound : Ordered 0 (ranges_at es') → all_valid_of (ranges_at es') ≡ true → All (InRam ram) es' → length es' ≤ max_address_ranges → Sound ram es'
+    pub stays_sound : Ordered 0 (ranges_at es') → all_valid_of (ranges_at es') ≡ true → All (InRam ram) es' → length es' ≤ max_address_ranges → Sound ram es'
     stays_sound o v i c =
         let on-node : (n a : ℕ) → holders (ranges_in (on_node n (noded_ranges es'))) a ≡ holders (ranges_in (on_node n ram)) a =
         λ n a. note-holders-on 0 n es' a o ∙ said_alike (counted_on n) (λ k u v. refl) a ∙ sym (note-holders-on 0 n es a sound.ordered)
@@ -104,37 +103,3 @@ module _ (asked : OptionU32) (len : ℕ) (type : AllocationType) (policy : Alloc
           totals = λ n. bytes_same (ranges_in (on_node n (noded_ranges es'))) (ranges_in (on_node n ram)) (on-node n);
           count = c;
         }
-
-  module _ (pages : len % page_size ≡ 0) (some_bytes : 0 < len) (good : alignment_good alignment ≡ true) (bits : Of64Bits alignment) where
-    -- an entry that fits gives a range, between those below it and those above it
-    pub placed_claimed : (ram : List TaggedRange) (lower : List AddressRange) (e : AddressRange) (higher : List AddressRange) (x : AllocatedRange)
-        (es' : List AddressRange) → Sound ram (lower ++ e ∷ higher) → fits_in asked len alignment e ≡ true
-        → placed len type policy alignment lower e higher ≡ handed x es'
-        → Sound ram es' × Handed asked len type policy alignment (lower ++ e ∷ higher) x es'
-    placed_claimed ram lower e higher x es' sound fits h =
-        let free = fits-parts e fits in
-        let part = given policy len alignment e.range pages some_bytes good bits (entry-valid lower e higher sound.valid) free.2 in
-        let y = outcome len type policy alignment e in
-        let used = y.range in
-        let after = lower ++ split_entry used (usage_for type) e ++ higher in
-        let same = placed-handed y after x es' h in
-        let gives : Handed asked len type policy alignment (lower ++ e ∷ higher) y after =
-        record {
-          length = part.length;
-          valid = part.valid;
-          node = free.1;
-          aligned = part.aligned;
-          was_free = λ a b. split_was lower e higher used (usage_for type) part.inside a 0 sound.ordered b ∙ rw free.0;
-          now-used = λ a b. split_now lower e higher used (usage_for type) part.inside a 0 sound.ordered b;
-          others = split_others lower e higher used (usage_for type) part.inside free.0;
-        }
-        in
-        rw (← same.0, ← same.1) (
-          stays_sound ram (lower ++ e ∷ higher) after y sound gives
-              (split-ordered lower e higher used (usage_for type) part.inside 0 sound.ordered)
-              (split-valid lower e higher used (usage_for type) part.inside part.valid sound.valid)
-              (split-all lower e higher used (usage_for type) part.inside (InRam ram)
-              (λ f n i. part_in-ram ram e f n (contains-between e.range f.range i.0 i.2)) sound.in-ram)
-              same.2,
-          gives,
-        )

@@ -1,4 +1,4 @@
--- Requests: on a sound table each leaves a sound table, and hands out what was free.
+-- Requests: what the rows above the search leave to it, and where no entry fits.
 use Rattle.std.specs.Prelude.{ℕ, ◌-◌, ◌%◌, ◌^◌, ◌≤◌, ◌<◌, true, false, not, List, [], ◌∷◌, ◌↔◌, ltb, eqb}
 use Rattle.std.proofs.Math.Path.{◌≡◌, refl}
 use Rattle.std.proofs.Math.Option.{Option, none, some}
@@ -25,26 +25,9 @@ use Rattle.address_space.specs.Laws.Request.{requested_refused, requested_rounde
 use Rattle.address_space.specs.Laws.Search.{found_in-table, found-fits, nothing-fits, in_order-all}
 use Rattle.memory_claims.specs.Claim.{Sound, Handed, Of64Bits}
 use Rattle.memory_claims.specs.Laws.Part.{at-page}
-use Rattle.memory_claims.specs.Laws.Placed.{found-placed, placed_claimed}
+use Rattle.memory_claims.specs.Laws.Placed.{found-placed}
 
 module _ (asked : OptionU32) (len : ℕ) (type : AllocationType) (policy : AllocationPolicy) (alignment : OptionU64) (es : List AddressRange) where
-  -- the search and the split, for a length in whole pages
-  pub allocated-handed : (ram : List TaggedRange) (x : AllocatedRange) (es' : List AddressRange)
-      → Sound ram es → len % page_size ≡ 0 → 0 < len → alignment_good alignment ≡ true → Of64Bits alignment
-      → allocated asked len type policy alignment es ≡ handed x es' → Sound ram es' × Handed asked len type policy alignment es x es'
-  unfolding allocated
-  allocated-handed ram x es' sound pages some_bytes good bits e = go (searched policy (fits_in asked len alignment) es) refl e
-    where
-      go : (s : Search AddressRange) → searched policy (fits_in asked len alignment) es ≡ s → placed_from len type policy alignment s ≡ handed x es'
-          → Sound ram es' × Handed asked len type policy alignment es x es'
-      go nothing p q = absurd (let z : ◌≡◌ {A = ℕ} 0 1 = cc in omega arith)
-      go (found before y after) p q =
-          let whole = found_in-table policy (fits_in asked len alignment) es before y after p in
-          let fits = found-fits (fits_in asked len alignment) (in_order_of policy es) before y after p in
-          rw whole
-          (placed_claimed asked len type policy alignment pages some_bytes good bits ram (below_in policy before after) y (above_in policy before after) x es'
-          (rw whole at sound) fits q)
-
   -- the search ends at nothing exactly where no entry fits
   pub allocated_no_fit : (allocated asked len type policy alignment es ≡ refused no_fit) ↔ All (λ e. fits_in asked len alignment e ≡ false) es
   unfolding allocated
@@ -76,20 +59,6 @@ module _ (asked : OptionU32) (len : ℕ) (type : AllocationType) (policy : Alloc
       let good = first-kept (not (alignment_good alignment)) alignment_invalid [] small.1 in
       let more = eqb-false len 0 some-length.0 in
       (omega arith, not-false (alignment_good alignment) good.0, ltb-false (2 ^ 64 - page_size) len small.0)
-
-  -- a request
-  pub requested-handed : (ram : List TaggedRange) (x : AllocatedRange) (es' : List AddressRange)
-      → Sound ram es → Of64Bits alignment → requested asked len type policy alignment es ≡ handed x es'
-      → Sound ram es' × Handed asked (round_up page_size len) type policy alignment es x es'
-  requested-handed ram x es' sound bits e = go (rows_refusal len alignment) refl
-    where
-      go : (o : Option ℕ) → rows_refusal len alignment ≡ o → Sound ram es' × Handed asked (round_up page_size len) type policy alignment es x es'
-      go (some n) passed = absurd (let r = requested_refused asked len type policy alignment es n (rw passed) in let z : ◌≡◌ {A = ℕ} 0 1 = cc in omega arith)
-      go none passed =
-          let kept = rows-passed passed in
-          let pages = at-page (round_up page_size len) (up_multiple page_size len) in
-          let some_bytes : 0 < round_up page_size len = omega (arith, up_above page_size len (omega arith)) in
-          allocated-handed asked (round_up page_size len) type policy alignment es ram x es' sound pages some_bytes kept.1 bits (rw (passed-rows passed) at e)
 
   -- a request past the rows above the search is refused with 25 exactly where no entry fits
   pub requested_no_fit : rows_refusal len alignment ≡ none
