@@ -1,6 +1,5 @@
 -- The claims of the table's value: what a request leaves in it.
-use Rattle.std.specs.Prelude.{ℕ, ◌%◌, ◌<◌, ◌≡◌, refl, true, ◌||◌, List, length}
-use Rattle.memory_range.specs.declared.range.MemoryRange.{MemoryRange}
+use Rattle.std.specs.Prelude.{ℕ, ◌%◌, ◌<◌, ◌≡◌, refl, true, ◌||◌, List}
 use Rattle.memory_range.specs.declared.range.TaggedRange.{TaggedRange}
 use Rattle.memory_range.specs.Valid.{page_size}
 use Rattle.host_params.specs.declared.AllocationPolicy.{AllocationPolicy}
@@ -14,7 +13,7 @@ use Rattle.address_space.specs.Request.{Outcome, refused, handed, alignment_good
 use Rattle.address_space.specs.Table.{entries_of, pool_of}
 use Rattle.address_space.specs.Usage.{is_pool}
 use Rattle.address_space.specs.Laws.Split.{entries_with}
-use Rattle.memory_claims.specs.Claim.{Sound, Of64Bits, Built}
+use Rattle.memory_claims.specs.Claim.{Sound, Of64Bits}
 use Rattle.memory_claims.proofs.Request.{allocated-handed, requested-handed}
 
 module _ (m : AddressSpaceManager) (asked : OptionU32) (len : ℕ) (type : AllocationType) (policy : AllocationPolicy) (alignment : OptionU64)

@@ -1,33 +1,20 @@
 -- What an entry that fits gives a request: a range that was free, and a table that is as sound as it was.
-use Rattle.std.specs.Prelude.{ℕ, ◌%◌, ◌≤◌, ◌<◌, ◌≡◌, refl, Bool, true, false, cond, ◌&&◌, List, ◌∷◌, ◌++◌, leb, ltb, length}
-use Rattle.std.proofs.Common.{sym, ◌∙◌, arith, ltb-false, leb-true}
-use Rattle.std.proofs.Math.Bool.{and-eq-true_iff}
-use Rattle.std.proofs.Math.Option.{Option, some}
-use Rattle.refusal.specs.Number.{no_fit, table_full}
+use Rattle.std.specs.Prelude.{ℕ, ◌%◌, ◌<◌, ◌≡◌, true, List, ◌∷◌, ◌++◌}
+use Rattle.std.proofs.Common.{◌∙◌}
 use Rattle.memory_range.specs.declared.range.TaggedRange.{TaggedRange}
-use Rattle.memory_range.specs.Bytes.{holders, Ordered, All}
-use Rattle.memory_range.specs.List.{ranges_in}
-use Rattle.memory_range.specs.Range.{length_of, holds}
-use Rattle.memory_range.specs.Valid.{page_size, all_valid_of}
-use Rattle.memory_range.specs.Laws.Bytes.{counted}
-use Rattle.memory_range.specs.Laws.Count.{bytes_same}
+use Rattle.memory_range.specs.Valid.{page_size}
 use Rattle.memory_range.specs.Laws.Range.{contains-between}
 use Rattle.host_params.specs.declared.AllocationPolicy.{AllocationPolicy}
 use Rattle.host_params.specs.declared.AllocationType.{AllocationType}
 use Rattle.host_params.specs.declared.OptionU32.{OptionU32}
 use Rattle.host_params.specs.declared.OptionU64.{OptionU64}
-use Rattle.boot_ram.specs.Held.{on_node}
 use Rattle.address_space.specs.declared.request.AllocatedRange.{AllocatedRange}
 use Rattle.address_space.specs.declared.table.AddressRange.{AddressRange}
-use Rattle.address_space.specs.declared.usage.AddressUsage.{AddressUsage}
-use Rattle.address_space.specs.declared.usage.AddressUsage.TheVariants.{Free, Used, Reserved}
-use Rattle.address_space.specs.Fit.{on_asked_node, aligned_to, fits_in}
-use Rattle.address_space.specs.Request.{refused, handed, alignment_good, placed_as, placed}
-use Rattle.address_space.specs.Split.{allotted, split_entry}
-use Rattle.address_space.specs.Table.{max_address_ranges, ranges_at}
-use Rattle.address_space.specs.Usage.{is_free, usage_for}
-use Rattle.memory_claims.specs.Claim.{noded_ranges, Note, note, note_at, InRam, Sound, Handed, Of64Bits}
-use Rattle.memory_claims.specs.Laws.Notes.{counted_on, note-holders, note-holders-on}
+use Rattle.address_space.specs.Fit.{fits_in}
+use Rattle.address_space.specs.Request.{handed, alignment_good, placed}
+use Rattle.address_space.specs.Split.{split_entry}
+use Rattle.address_space.specs.Usage.{usage_for}
+use Rattle.memory_claims.specs.Claim.{InRam, Sound, Handed, Of64Bits}
 use Rattle.memory_claims.proofs.Part.{given}
 use Rattle.memory_claims.specs.Laws.Placed.{placed-handed, outcome, fits-parts, stays_sound}
 use Rattle.memory_claims.specs.Laws.Ram.{part_in-ram}

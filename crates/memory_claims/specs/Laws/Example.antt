@@ -1,6 +1,6 @@
 -- Some build is accepted, so that the claims are about something: RAM from 200000 to 210000, of which the boot shim uses the first four pages, two of
 -- them for the persisted state.
-use Rattle.std.specs.Prelude.{◌≡◌, refl, List, [], ◌∷◌}
+use Rattle.std.specs.Prelude.{◌≡◌, refl, [], ◌∷◌}
 use Rattle.memory_range.specs.List.{tagged}
 use Rattle.memory_range.specs.Range.{range, overlap_ranges}
 use Rattle.range_lists.specs.Walk.{walk_from}

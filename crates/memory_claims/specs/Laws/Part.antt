@@ -11,7 +11,7 @@ use Rattle.memory_range.specs.Laws.Align.{aligned_inside, aligned-ends, aligned-
 use Rattle.memory_range.specs.Laws.Power.{power_of-two}
 use Rattle.memory_range.specs.Laws.Range.{contained, contains-between}
 use Rattle.memory_range.specs.Laws.Round.{Multiple}
-use Rattle.memory_range.specs.Laws.Valid.{valid-parts, valid-range}
+use Rattle.memory_range.specs.Laws.Valid.{valid-parts}
 use Rattle.host_params.specs.declared.AllocationPolicy.{AllocationPolicy}
 use Rattle.host_params.specs.declared.AllocationPolicy.TheVariants.{LowMemory, HighMemory}
 use Rattle.host_params.specs.declared.OptionU64.{OptionU64}

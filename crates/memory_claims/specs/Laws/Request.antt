@@ -1,30 +1,25 @@
 -- Requests: what the rows above the search leave to it, and where no entry fits.
-use Rattle.std.specs.Prelude.{ℕ, ◌-◌, ◌%◌, ◌^◌, ◌≤◌, ◌<◌, true, false, not, List, [], ◌∷◌, ◌↔◌, ltb, eqb}
+use Rattle.std.specs.Prelude.{ℕ, ◌-◌, ◌^◌, ◌≤◌, ◌<◌, true, false, not, List, [], ◌∷◌, ◌↔◌, ltb, eqb}
 use Rattle.std.proofs.Math.Path.{◌≡◌, refl}
-use Rattle.std.proofs.Math.Option.{Option, none, some}
+use Rattle.std.proofs.Math.Option.{none}
 use Rattle.std.proofs.Common.{arith, ltb-false}
 use Rattle.std.proofs.lemmas.Bool.{eqb-false, not-false}
 use Rattle.refusal.specs.Number.{length_zero, length_too_large, alignment_invalid, no_fit}
 use Rattle.refusal.specs.Rows.{refused_if}
 use Rattle.refusal.specs.Laws.Rows.{first-kept}
-use Rattle.memory_range.specs.declared.range.TaggedRange.{TaggedRange}
 use Rattle.memory_range.specs.Bytes.{All}
 use Rattle.memory_range.specs.Round.{round_up}
 use Rattle.memory_range.specs.Valid.{page_size}
-use Rattle.memory_range.specs.Laws.Round.{up_multiple, up_above}
 use Rattle.host_params.specs.declared.AllocationPolicy.{AllocationPolicy}
 use Rattle.host_params.specs.declared.AllocationType.{AllocationType}
 use Rattle.host_params.specs.declared.OptionU32.{OptionU32}
 use Rattle.host_params.specs.declared.OptionU64.{OptionU64}
-use Rattle.address_space.specs.declared.request.AllocatedRange.{AllocatedRange}
 use Rattle.address_space.specs.declared.table.AddressRange.{AddressRange}
 use Rattle.address_space.specs.Fit.{fits_in}
-use Rattle.address_space.specs.Request.{refused, handed, alignment_good, rows_refusal, placed_from, allocated, requested}
+use Rattle.address_space.specs.Request.{refused, alignment_good, rows_refusal, placed_from, allocated, requested}
 use Rattle.address_space.specs.Search.{Search, nothing, found, in_order_of, searched, below_in, above_in}
-use Rattle.address_space.specs.Laws.Request.{requested_refused, requested_rounded}
-use Rattle.address_space.specs.Laws.Search.{found_in-table, found-fits, nothing-fits, in_order-all}
-use Rattle.memory_claims.specs.Claim.{Sound, Handed, Of64Bits}
-use Rattle.memory_claims.specs.Laws.Part.{at-page}
+use Rattle.address_space.specs.Laws.Request.{requested_rounded}
+use Rattle.address_space.specs.Laws.Search.{nothing-fits, in_order-all}
 use Rattle.memory_claims.specs.Laws.Placed.{found-placed}
 
 module _ (asked : OptionU32) (len : ℕ) (type : AllocationType) (policy : AllocationPolicy) (alignment : OptionU64) (es : List AddressRange) where
