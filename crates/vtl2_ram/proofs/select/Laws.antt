@@ -19,7 +19,7 @@ use Rattle.refusal.specs.Answer.{rows_as}
 use Rattle.refusal.specs.Laws.Answer.{rows_refused, rows_none}
 use Rattle.host_params.specs.declared.IsolationType.{IsolationType}
 use Rattle.host_params.specs.declared.MemoryAllocationMode.{MemoryAllocationMode}
-use Rattle.host_params.specs.declared.MemoryAllocationMode.TheVariants.{Host, Vtl2}
+use Rattle.host_params.specs.declared.MemoryAllocationMode.TheVariants.{Vtl2}
 use Rattle.host_params.specs.declared.MemoryEntry.{MemoryEntry}
 use Rattle.host_params.specs.declared.OptionU64.{OptionU64}
 use Rattle.host_map.specs.declared.entries.Entries.{Entries}
@@ -31,7 +31,6 @@ use Rattle.boot_nodes.specs.declared.node.NumaNodes.{NumaNodes}
 use Rattle.boot_nodes.specs.Node.{held_counted, nodes_counted}
 use Rattle.vtl2_ram.specs.Boot.{RowsPassed, boot_choice}
 use Rattle.vtl2_ram.specs.Choice.{refused}
-use Rattle.vtl2_ram.specs.Host.{host_choice}
 use Rattle.vtl2_ram.specs.Rows.{rows_known, rows_refusal}
 use Rattle.vtl2_ram.specs.Select.{choice_by, choice, copied_map, Copied, Listed, choice_copied}
 use Rattle.boot_nodes.specs.Laws.Node.{held-counted}
@@ -73,11 +72,7 @@ listed_more i map ss es ns ls none h m t p =
     )
     (refl, simp length-set p.1)
 
--- each mode's choice, from lists of one length in boot mode
-pub select_host : (mode : MemoryAllocationMode) (isolation : IsolationType) (size : OptionU64) (file : MemoryRange) (map : List MemoryEntry)
-    (imports : List MemoryRange) → mode ≡ Host → choice_by mode isolation size file map imports ≡ host_choice isolation file map
-select_host mode isolation size file map imports m = rw m
-
+-- boot mode's choice, from lists of one length
 pub select_boot : (mode : MemoryAllocationMode) (isolation : IsolationType) (size : OptionU64) (file : MemoryRange) (ss es ns : List ℕ)
     (ls : List Bool) (imports : List MemoryRange) → SameLengths ss es ns ls → mode ≡ Vtl2
     → choice_by mode isolation size file (map_of ss es ns ls) imports ≡ boot_choice isolation size file (tagged_of ss es ns) imports

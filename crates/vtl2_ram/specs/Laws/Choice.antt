@@ -18,7 +18,10 @@ pub unless-chosen : (u : Option ℕ) (c : Choice) {ram : List TaggedRange} → u
 unless-chosen none c e = (refl, e)
 unless-chosen (some n) c e = absurd (true≢false (ap is_refused e))
 
+pub same-number : {k n : ℕ} → refused k ≡ refused n → k ≡ n
+same-number e = cc
+
 -- what is shown of a refusal that comes first, and of one that comes after, holds of the number that is told
 abbrev pub choice-told : (P : ℕ → Type 0) (u : Option ℕ) (c : Choice) {n : ℕ} → (u ≡ some n → P n) → (u ≡ none → c ≡ refused n → P n)
     → unless refused u c ≡ refused n → P n
-choice-told = unless-told refused (λ k n e. cc)
+choice-told = unless-told refused (λ k n e. same-number e)
