@@ -22,7 +22,7 @@ use Rattle.plan_text.specs.Text.{records_of}
 use Rattle.plan_text.specs.Spelling.{text_for}
 use Rattle.plan_text.specs.Laws.Spelling.{text_spelled}
 use Rattle.line_claims.specs.Spelling.{policy_word, kind_word, optional_for, optional_node_for, fields_for, line_for, SizedOption, Sized}
-use Rattle.line_claims.specs.Laws.Field.{policy-read, kind-read, optional-read, optional-node-read}
+use Rattle.line_claims.proofs.Laws.Field.{policy-read, kind-read, optional-read, optional-node-read}
 use Rattle.plan.specs.Planner.{shortest_get}
 
 -- a field that is read has a byte
