@@ -1,5 +1,5 @@
 -- Laws of the loop that lists the protectable entries, and of what is made of its answer.
-use Prim.Native.Nat.{ℕ, suc, ◌+◌, ◌-◌, ◌≤◌, ◌<◌, ◌^◌}
+use Prim.Native.Nat.{ℕ, suc, ◌+◌, ◌-◌, ◌≤◌, ◌<◌}
 use mathlib.Core.Bool.{Bool, true, false}
 use mathlib.Core.List.{List, [], ◌∷◌}
 use mathlib.Core.Path.{◌≡◌, refl}
@@ -10,25 +10,17 @@ use lib.ListN.{length, take, set, length-replicate}
 use lib.Seq.{take_all, take-nil}
 use Rattle.memory_range.specs.declared.range.MemoryRange.{MemoryRange}
 use Rattle.memory_range.specs.declared.range.TaggedRange.{TaggedRange}
-use Rattle.memory_range.specs.List.{tagged, first_tagged}
-use Rattle.memory_range.specs.Valid.{page_size}
+use Rattle.memory_range.specs.List.{first_tagged}
 use Rattle.refusal.specs.declared.answer.Counted.{Counted}
 use Rattle.refusal.specs.declared.answer.Counted.TheVariants.{Count, Refused}
 use Rattle.boot_ram.specs.Held.{bytes_of}
 use Rattle.boot_ram.specs.Verdict.{max_chosen, WrittenTo}
-use Rattle.refusal.specs.Number.{share_too_large, too_many_pieces}
-use Rattle.vtl2_ram.specs.Choice.{refused, chosen}
-use Rattle.vtl2_ram.specs.Host.{isolated_end, isolated_choice, protectable_counted, protectable_choice}
+use Rattle.refusal.specs.Number.{too_many_pieces}
+use Rattle.vtl2_ram.specs.Choice.{chosen}
+use Rattle.vtl2_ram.specs.Host.{protectable_counted, protectable_choice}
 use Rattle.vtl2_ram.specs.Ram.{zeros, ram_with, ram_of}
 use Rattle.boot_ram.specs.Laws.Verdict.{Writes, writes-all, writes-next, writes-none}
 use Rattle.boot_ram.specs.Laws.Written.{first-written}
-
-pub isolated-over : (file : MemoryRange) (bytes : ℕ) → 2 ^ 64 - page_size < isolated_end file bytes → isolated_choice file bytes ≡ refused share_too_large
-isolated-over file bytes h = rw (lt-ltb (2 ^ 64 - page_size) (isolated_end file bytes) h)
-
-pub isolated_within : (file : MemoryRange) (bytes : ℕ) → isolated_end file bytes ≤ 2 ^ 64 - page_size
-    → isolated_choice file bytes ≡ chosen (tagged file.start (isolated_end file bytes) 0 ∷ [])
-isolated_within file bytes h = rw (le-ltb (2 ^ 64 - page_size) (isolated_end file bytes) h)
 
 -- of all entries n are listed, in arrays that were ss₀, es₀ and ts₀, and the rest is left: to write the first 64 of all into those from the first
 -- place on is to write the first of the rest, as many as there is place for, behind what is listed
@@ -71,19 +63,6 @@ counted-protectable xs n d e = go (ltb max_chosen (length xs)) refl
     go : (t : Bool) → ltb max_chosen (length xs) ≡ t → (length xs ≡ n) × (n ≤ max_chosen)
     go true p = let w = rw p at d in absurd (let z : ◌≡◌ {A = ℕ} 0 1 = cc in omega arith)
     go false p = let w = rw p at d in let m : length xs ≡ n = cc in (m, omega (arith, ltb-false max_chosen (length xs) p))
-
-pub refused-protectable : (file : MemoryRange) (xs : List TaggedRange) (n : ℕ) {r : Counted} → r ≡ protectable_counted xs → r ≡ Refused n
-    → protectable_choice file xs ≡ refused n
-refused-protectable file [] n d e = absurd (let z : ◌≡◌ {A = ℕ} 0 1 = cc in omega arith)
-refused-protectable file (x ∷ xs) n d e = go (ltb max_chosen (length (x ∷ xs))) refl
-  where
-    go : (t : Bool) → ltb max_chosen (length (x ∷ xs)) ≡ t → protectable_choice file (x ∷ xs) ≡ refused n
-    go true p = let w = rw p at d in rw p (cc)
-    go false p = let w = rw p at d in absurd (let z : ◌≡◌ {A = ℕ} 0 1 = cc in omega arith)
-
-pub protectable-file : (file : MemoryRange) (xs : List TaggedRange) → length xs ≡ 0 → protectable_choice file xs ≡ chosen (tagged file.start file.end 0 ∷ [])
-protectable-file file [] h = refl
-protectable-file file (x ∷ xs) h = absurd (omega arith)
 
 pub protectable-all : (file : MemoryRange) (xs : List TaggedRange) → 0 < length xs → length xs ≤ max_chosen → protectable_choice file xs ≡ chosen xs
 protectable-all file [] h k = absurd (omega arith)
