@@ -130,11 +130,11 @@ module _ (make : MemoryRange → Record) (k : ℕ) (word : (x : MemoryRange) →
 -- the records of the map before those of the imported ranges and the used range
 module _ (is : List MemoryRange) (u : MemoryRange) (rs : List Record) where
   map_first : (ms : List MemoryEntry) → entries_first (map Mem ms ++ (map Import is ++ (Used u ∷ rs))) ≡ ms
-  map_first [] = elim is [ [] ↦ refl | i ∷ is' ↦ refl ]
+  map_first [] = elim is as (λ (l : List MemoryRange). entries_first (map Import l ++ (Used u ∷ rs)) ≡ []) [ [] ↦ refl | i ∷ is' ↦ refl ]
   map_first (m ∷ ms) = rw (map_first ms)
 
   map-behind : (ms : List MemoryEntry) → behind_words 2 (map Mem ms ++ (map Import is ++ (Used u ∷ rs))) ≡ map Import is ++ (Used u ∷ rs)
-  map-behind [] = elim is [ [] ↦ refl | i ∷ is' ↦ refl ]
+  map-behind [] = elim is as (λ (l : List MemoryRange). behind_words 2 (map Import l ++ (Used u ∷ rs)) ≡ map Import l ++ (Used u ∷ rs)) [ [] ↦ refl | i ∷ is' ↦ refl ]
   map-behind (m ∷ ms) = map-behind ms
 
 map-valid : (rs : List Record) (ms : List MemoryEntry)

@@ -1,7 +1,7 @@
 -- What arrays hold of lists that may be longer than they are; and that selection and the build answer the same from it: each array
 -- has one place more than its row allows, so a list that is too long is refused either way.
 use Rattle.std.specs.Prelude.{ℕ, suc, zero, ◌<◌, min, ◌≡◌, refl, Bool, true, false, List, [], ◌∷◌, leb, length, take, set}
-use Rattle.std.proofs.Common.{sym, ap, ◌∙◌, true≢false, arith, length-take, take_all}
+use Rattle.std.proofs.Common.{sym, ◌∙◌, true≢false, arith, length-take, take_all}
 use Rattle.std.proofs.Math.Bool.{and-eq-true_iff, and-false}
 use Rattle.std.proofs.Math.Option.{Option, none, some}
 use Rattle.std.proofs.Math.Decide.{dec_le}
