@@ -28,7 +28,7 @@ use Rattle.address_space.specs.Usage.{is_free, usage_for}
 use Rattle.address_space.specs.Laws.Search.{found_in-table, found-fits}
 use Rattle.memory_claims.specs.Claim.{noded_range, Sound, Of64Bits}
 use Rattle.memory_claims.specs.Laws.Notes.{starts-behind}
-use Rattle.memory_claims.specs.Laws.Part.{given}
+use Rattle.memory_claims.proofs.Part.{given}
 use Rattle.memory_claims.specs.Laws.Placed.{placed-handed, fits-parts}
 use Rattle.memory_claims.specs.Laws.Split.{Inside, entry-valid}
 use Rattle.ledger.specs.Ledger.{over, cut}

@@ -16,7 +16,8 @@ use Rattle.address_space.specs.Request.{Outcome, refused, handed, alignment_good
 use Rattle.address_space.specs.Usage.{usage_for}
 use Rattle.memory.specs.declared.builder.AddressSpaceManagerBuilder.{AddressSpaceManagerBuilder}
 use Rattle.memory_claims.specs.Claim.{Of64Bits}
-use Rattle.memory_claims.specs.Laws.Request.{allocated-handed, allocated_no_fit}
+use Rattle.memory_claims.specs.Laws.Request.{allocated_no_fit}
+use Rattle.memory_claims.proofs.Request.{allocated-handed}
 use Rattle.ledger.specs.Ledger.{Ledger}
 use Rattle.ledger.specs.Search.{some_entry_fits, given_of}
 use Rattle.ledger.specs.Laws.Allocated.{allocated_refusals, allocated-given, allocated-free}
