@@ -1,4 +1,4 @@
--- What is handed out is what the rule gives of the free ranges, and is cut from them.
+-- What is handed out is cut from the free ranges (that it is what the rule gives of them: proofs/Allocated).
 use Rattle.std.specs.Prelude.{ℕ, min, max, ◌-◌, ◌%◌, ◌≤◌, ◌<◌, Bool, true, false, cond, List, [], ◌∷◌, ◌++◌, ◌⊎◌, ltb, length}
 use Rattle.std.proofs.Math.Path.{◌≡◌, refl}
 use Rattle.std.proofs.Common.{ap, ◌∙◌, append_assoc, arith, lt-ltb, le-ltb}
@@ -114,10 +114,10 @@ module _ (e : AddressRange) (higher : List AddressRange) (used : MemoryRange) (t
 -- the search and the split, for a length in whole pages
 module _ (asked : OptionU32) (len : ℕ) (type : AllocationType) (policy : AllocationPolicy) (alignment : OptionU64) (es : List AddressRange) where
   -- what is taken from an entry that was found, and the entries that this leaves
-  abbrev taken : AddressRange → AllocatedRange
+  abbrev pub taken : AddressRange → AllocatedRange
   taken e = record { range = allotted policy len (aligned_to alignment e.range); vnode = e.vnode }
 
-  abbrev left : List AddressRange → AddressRange → List AddressRange → List AddressRange
+  abbrev pub left : List AddressRange → AddressRange → List AddressRange → List AddressRange
   left before e after = below_in policy before after ++ split_entry (taken e).range (usage_for type) e ++ above_in policy before after
 
   -- it is refused for want of a fit, or as too many entries
@@ -130,15 +130,15 @@ module _ (asked : OptionU32) (len : ℕ) (type : AllocationType) (policy : Alloc
       go (found before e after) q = inr (placed_refused (taken e) (left before e after) n q)
 
   -- what it hands out comes from an entry that it found
-  record From (x : AllocatedRange) (es' : List AddressRange) : Type 0 where
-    before : List AddressRange
-    chosen : AddressRange
-    after : List AddressRange
-    finds : searched policy (fits_in asked len alignment) es ≡ found before chosen after
-    gives : taken chosen ≡ x
-    leaves : left before chosen after ≡ es'
+  pub record From (x : AllocatedRange) (es' : List AddressRange) : Type 0 where
+    pub before : List AddressRange
+    pub chosen : AddressRange
+    pub after : List AddressRange
+    pub finds : searched policy (fits_in asked len alignment) es ≡ found before chosen after
+    pub gives : taken chosen ≡ x
+    pub leaves : left before chosen after ≡ es'
 
-  allocated_from : (x : AllocatedRange) (es' : List AddressRange) → allocated asked len type policy alignment es ≡ handed x es' → From x es'
+  pub allocated_from : (x : AllocatedRange) (es' : List AddressRange) → allocated asked len type policy alignment es ≡ handed x es' → From x es'
   unfolding allocated
   allocated_from x es' h = go (searched policy (fits_in asked len alignment) es) refl h
     where
@@ -148,13 +148,6 @@ module _ (asked : OptionU32) (len : ℕ) (type : AllocationType) (policy : Alloc
       go (found before e after) p q =
           let same = placed-handed (taken e) (left before e after) x es' q in
           record { before = before; chosen = e; after = after; finds = p; gives = same.0; leaves = same.1 }
-
-  -- the rule gives the same of the free ranges
-  pub allocated-given : (x : AllocatedRange) (es' : List AddressRange) → allocated asked len type policy alignment es ≡ handed x es'
-      → given_of asked len policy alignment (free_of es) ≡ some x
-  allocated-given x es' h =
-      let w = allocated_from x es' h in
-      rw (← free_in_order policy es, first-free asked len alignment (in_order_of policy es), w.finds) (ap some w.gives)
 
   -- it is cut from the free ranges
   pub allocated-free : (ram : List TaggedRange) (x : AllocatedRange) (es' : List AddressRange)

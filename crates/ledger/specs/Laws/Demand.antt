@@ -1,4 +1,4 @@
--- Demand 3, whole: it holds of the planner that the definitions are.
+-- Demand 3 of the planner that the definitions are: the selection and the build (whole, with the calls: proofs/Demand), and what it says of a plan.
 use Rattle.std.specs.Prelude.{ℕ, ◌+◌, ◌≤◌, ◌<◌, ◌≡◌, refl, true, List}
 use Rattle.std.proofs.Common.{ap, sym, ◌∙◌}
 use Rattle.std.proofs.Math.Option.{some, some-injective, none-ne-some}
@@ -29,7 +29,6 @@ use Rattle.memory_claims.specs.Claim.{noded_ranges}
 use Rattle.ledger.specs.Call.{Call}
 use Rattle.ledger.specs.Planner.{Planner, planner, selection_of}
 use Rattle.ledger.specs.Claim.{Claim, last_table, SelectionClaim, Demand3}
-use Rattle.ledger.specs.Laws.Run.{claim-holds}
 
 module _ (mode : MemoryAllocationMode) (isolation : IsolationType) (size : OptionU64) (file : MemoryRange) (map : List MemoryEntry)
     (imports : List MemoryRange) (ram : List TaggedRange) where
@@ -43,7 +42,7 @@ module _ (mode : MemoryAllocationMode) (isolation : IsolationType) (size : Optio
           let stored = stored-first (record { starts = refl; ends = refl; tags = refl }) (chosen_in_order isolation size file map imports xs mode p).count in
           ap chosen (sym stored ∙ some-injective _ ram q)
 
-  selection-holds : selection_of (ram_as (choice mode isolation size file map imports)) ≡ some ram → SelectionClaim mode isolation size file map imports ram
+  pub selection-holds : selection_of (ram_as (choice mode isolation size file map imports)) ≡ some ram → SelectionClaim mode isolation size file map imports ram
   selection-holds e =
       let same = answer-same e in
       record {
@@ -53,18 +52,15 @@ module _ (mode : MemoryAllocationMode) (isolation : IsolationType) (size : Optio
       }
 
   -- and an accepted map's RAM is in it
-  selects-same : choice mode isolation size file map imports ≡ chosen ram → selection_of (ram_as (choice mode isolation size file map imports)) ≡ some ram
+  pub selects-same : choice mode isolation size file map imports ≡ chosen ram → selection_of (ram_as (choice mode isolation size file map imports)) ≡ some ram
   selects-same e =
       rw e
       (ap some
       (stored-first (record { starts = refl; ends = refl; tags = refl }) (chosen_in_order isolation size file map imports ram mode e).count))
 
-builds-some : (b : AddressSpaceManagerBuilder) (ram : List TaggedRange) (configs pools : List MemoryRange) (es : List AddressRange)
+pub builds-some : (b : AddressSpaceManagerBuilder) (ram : List TaggedRange) (configs pools : List MemoryRange) (es : List AddressRange)
     → build b 0 ram configs pools ≡ built es → (s : AddressSpaceManager) × (planner.build b ram configs pools ≡ some s)
 builds-some b ram configs pools es e = (table_with empty_table es (has_pool pools), rw e)
-
-pub demand-3 : Demand3 planner
-demand-3 = record { selects = selects-same; selection = selection-holds; builds = builds-some; calls = claim-holds }
 
 -- from an accepted map through the build from its RAM to the table after any list of calls: in boot mode each node of the map has what is due to it there
 pub record Planned (P : Planner) (mode : MemoryAllocationMode) (isolation : IsolationType) (size : OptionU64) (file : MemoryRange) (map : List MemoryEntry)

@@ -19,7 +19,8 @@ use Rattle.ledger.specs.Call.{Request, Call, request, pool}
 use Rattle.ledger.specs.Ledger.{Ledger, fed}
 use Rattle.ledger.specs.Planner.{planner, allocation_of, private_pool_of, answered, events, state_after}
 use Rattle.ledger.specs.Claim.{first_ledger}
-use Rattle.ledger.specs.Laws.Demand.{demand-3, planned}
+use Rattle.ledger.specs.Laws.Demand.{planned}
+use Rattle.ledger.proofs.Demand.{demand-3}
 use Rattle.plan_record.specs.declared.record.Get.{Get}
 use Rattle.plan_input.specs.Input.{Input}
 use Rattle.plan.specs.Get.{outcome_on, outcome_line, left_by, get_lines, after_gets}

@@ -36,9 +36,9 @@ use Rattle.ledger.specs.Planner.{Answered, planner, init_of, allocation_of, priv
 use Rattle.ledger.specs.Claim.{sets_flag, CallClaim, Claim, first_ledger}
 use Rattle.ledger.specs.Laws.Kept.{Kept, Given}
 use Rattle.ledger.specs.Laws.Opened.{opened-free}
-use Rattle.ledger.specs.Laws.Placed.{GivenBy, pool-holds}
-use Rattle.ledger.specs.Laws.Searched.{SearchCase, search_case}
-use Rattle.ledger.specs.Laws.Searched as case
+use Rattle.ledger.proofs.Placed.{GivenBy, pool-holds}
+use Rattle.ledger.proofs.Searched.{SearchCase, search_case}
+use Rattle.ledger.proofs.Searched as case
 
 module _ (b : AddressSpaceManagerBuilder) (ram : List TaggedRange) (configs pools : List MemoryRange) where
   -- a call that came to this on the table m, with the ledger l: what is claimed of it, and what it keeps

@@ -33,8 +33,8 @@ use Rattle.ledger.specs.Ledger.{Ledger}
 use Rattle.ledger.specs.Search.{piece_fits, piece_given, PieceSearched, PiecesSearched, SplitSearched, PoolSearched}
 use Rattle.ledger.specs.Laws.Kept.{Kept, Given, cut_one, given-none, given_more}
 use Rattle.ledger.specs.Laws.Nodes.{nodes-same}
-use Rattle.ledger.specs.Laws.Searched.{SearchCase, search_case}
-use Rattle.ledger.specs.Laws.Searched as case
+use Rattle.ledger.proofs.Searched.{SearchCase, search_case}
+use Rattle.ledger.proofs.Searched as case
 
 module _ (b : AddressSpaceManagerBuilder) (ram : List TaggedRange) (configs pools : List MemoryRange) where
   abbrev pub pool_usage : AddressUsage

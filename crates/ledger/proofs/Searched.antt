@@ -20,7 +20,8 @@ use Rattle.memory_claims.specs.Laws.Request.{allocated_no_fit}
 use Rattle.memory_claims.proofs.Request.{allocated-handed}
 use Rattle.ledger.specs.Ledger.{Ledger}
 use Rattle.ledger.specs.Search.{some_entry_fits, given_of}
-use Rattle.ledger.specs.Laws.Allocated.{allocated_refusals, allocated-given, allocated-free}
+use Rattle.ledger.specs.Laws.Allocated.{allocated_refusals, allocated-free}
+use Rattle.ledger.proofs.Allocated.{allocated-given}
 use Rattle.ledger.specs.Laws.Free.{fits-free}
 use Rattle.ledger.specs.Laws.Kept.{Kept, Given, given-one}
 
