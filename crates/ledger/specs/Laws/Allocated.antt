@@ -1,9 +1,8 @@
 -- What is handed out is cut from the free ranges (that it is what the rule gives of them: proofs/Allocated).
-use Rattle.std.specs.Prelude.{ℕ, min, max, ◌-◌, ◌%◌, ◌≤◌, ◌<◌, Bool, true, false, cond, List, [], ◌∷◌, ◌++◌, ◌⊎◌, ltb, length}
+use Rattle.std.specs.Prelude.{ℕ, min, max, ◌%◌, ◌≤◌, ◌<◌, Bool, true, false, cond, List, [], ◌∷◌, ◌++◌, ◌⊎◌, ltb, length}
 use Rattle.std.proofs.Math.Path.{◌≡◌, refl}
 use Rattle.std.proofs.Common.{ap, ◌∙◌, append_assoc, arith, lt-ltb, le-ltb}
 use Rattle.std.proofs.Math.Logic.{inl, inr}
-use Rattle.std.proofs.Math.Option.{some}
 use Rattle.std.proofs.Math.Nat.{min-eq_left, min-eq_right, max-eq_left, max-eq_right}
 use Rattle.refusal.specs.Number.{no_fit, table_full}
 use Rattle.memory_range.specs.declared.range.MemoryRange.{MemoryRange}
@@ -32,9 +31,7 @@ use Rattle.memory_claims.proofs.Part.{given}
 use Rattle.memory_claims.specs.Laws.Placed.{placed-handed, fits-parts}
 use Rattle.memory_claims.specs.Laws.Split.{Inside, entry-valid}
 use Rattle.ledger.specs.Ledger.{over, cut}
-use Rattle.ledger.specs.Search.{given_of}
 use Rattle.ledger.specs.Claim.{free_of}
-use Rattle.ledger.specs.Laws.Free.{free_in_order, first-free}
 
 -- what is placed and refused has too many entries
 placed_refused : (x : AllocatedRange) (xs : List AddressRange) (n : ℕ) → placed_as x xs ≡ refused n → n ≡ table_full
