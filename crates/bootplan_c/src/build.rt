@@ -23,9 +23,9 @@ pub extern "C" fn bootplan_build(
     pools: &[u64],
     table: &mut [u64],
 ) -> u8
-    ensures fact_1 { result ≡ code_of (build_call (given used_start used_end state_start state_end ram.now
+    ensures value { result ≡ code_of (build_call (given used_start used_end state_start state_end ram.now
         reserved.now configs.now pools.now) table.old) }
-    ensures fact_2 { table.new ≡ build_table table.old (build_call (given used_start used_end state_start state_end ram.now
+    ensures table_after { table.new ≡ build_table table.old (build_call (given used_start used_end state_start state_end ram.now
         reserved.now configs.now pools.now) table.old) }
 {
     let read = read_table(table);

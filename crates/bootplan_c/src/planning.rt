@@ -18,9 +18,9 @@ pub extern "C" fn bootplan_output_size(text_len: usize) -> usize
 // leaves both as found.
 #[unsafe(no_mangle)]
 pub extern "C" fn bootplan_plan(text: &[u8], output: &mut [u8], written: &mut usize) -> u8
-    ensures fact_1 { result ≡ plan_code (planned_to text.now output.old) }
-    ensures fact_2 { output.new ≡ output_to text.now output.old }
-    ensures fact_3 { written.new ≡ length_or (planned_to text.now output.old) written.old }
+    ensures value { result ≡ plan_code (planned_to text.now output.old) }
+    ensures output_after { output.new ≡ output_to text.now output.old }
+    ensures written_after { written.new ≡ length_or (planned_to text.now output.old) written.old }
 {
     match plan::plan_to(text, output) {
         PlannedTo::Written(len) => {

@@ -17,10 +17,10 @@ pub extern "C" fn bootplan_place_pool(
     pieces: &mut [u64],
     count: &mut usize,
 ) -> u8
-    ensures fact_1 { result ≡ code_of (pool_call pages split table.old (length pieces.old)) }
-    ensures fact_2 { table.new ≡ pool_table table.old (pool_call pages split table.old (length pieces.old)) }
-    ensures fact_3 { pieces.new ≡ pool_pieces pieces.old (pool_call pages split table.old (length pieces.old)) }
-    ensures fact_4 { count.new ≡ pool_count_of count.old (pool_call pages split table.old (length pieces.old)) }
+    ensures value { result ≡ code_of (pool_call pages split table.old (length pieces.old)) }
+    ensures table_after { table.new ≡ pool_table table.old (pool_call pages split table.old (length pieces.old)) }
+    ensures pieces_after { pieces.new ≡ pool_pieces pieces.old (pool_call pages split table.old (length pieces.old)) }
+    ensures count_after { count.new ≡ pool_count_of count.old (pool_call pages split table.old (length pieces.old)) }
 {
     if pieces.len() < PIECES_ROOM {
         return BOOTPLAN_NO_ROOM;

@@ -10,9 +10,9 @@ use table_words::{BOOTPLAN_BAD_TABLE, BOOTPLAN_DONE, BOOTPLAN_NO_ROOM, read_tabl
 // they are. Any answer but 0 leaves all as found.
 #[unsafe(no_mangle)]
 pub extern "C" fn bootplan_vtl2_ranges(table: &[u64], ranges: &mut [u64], count: &mut usize) -> u8
-    ensures fact_1 { result ≡ code_of (ranges_call table.now (length ranges.old)) }
-    ensures fact_2 { ranges.new ≡ ranges_after ranges.old (ranges_call table.now (length ranges.old)) }
-    ensures fact_3 { count.new ≡ ranges_count count.old (ranges_call table.now (length ranges.old)) }
+    ensures value { result ≡ code_of (ranges_call table.now (length ranges.old)) }
+    ensures buffer_after { ranges.new ≡ ranges_after ranges.old (ranges_call table.now (length ranges.old)) }
+    ensures count_after { count.new ≡ ranges_count count.old (ranges_call table.now (length ranges.old)) }
 {
     if ranges.len() < RANGES_ROOM {
         return BOOTPLAN_NO_ROOM;

@@ -13,9 +13,9 @@ use table_words::{
 // three words 0. Any answer of the call but 0 leaves all as found.
 #[unsafe(no_mangle)]
 pub extern "C" fn bootplan_request(table: &mut [u64], requests: &[u64], answers: &mut [u64]) -> u8
-    ensures fact_1 { result ≡ code_of (request_call table.old requests.now (length answers.old)) }
-    ensures fact_2 { table.new ≡ request_table table.old (request_call table.old requests.now (length answers.old)) }
-    ensures fact_3 { answers.new ≡ request_answers answers.old (request_call table.old requests.now (length answers.old)) }
+    ensures value { result ≡ code_of (request_call table.old requests.now (length answers.old)) }
+    ensures table_after { table.new ≡ request_table table.old (request_call table.old requests.now (length answers.old)) }
+    ensures answers_after { answers.new ≡ request_answers answers.old (request_call table.old requests.now (length answers.old)) }
 {
     if answers.len() < 4 * (requests.len() / REQUEST_WORDS) {
         return BOOTPLAN_NO_ROOM;

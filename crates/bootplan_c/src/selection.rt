@@ -26,15 +26,15 @@ pub extern "C" fn bootplan_select_ram(
     ram: &mut [u64],
     count: &mut usize,
 ) -> u8
-    ensures fact_1 { let size = given_number size_given ram_size in
+    ensures value { let size = given_number size_given ram_size in
         let file = range file_start file_end in
         let answer = asked mode isolation size file map.now imports.now ram.old in
         result ≡ choice_code answer }
-    ensures fact_2 { let size = given_number size_given ram_size in
+    ensures buffer_after { let size = given_number size_given ram_size in
         let file = range file_start file_end in
         let answer = asked mode isolation size file map.now imports.now ram.old in
         ram.new ≡ ram_after answer ram.old }
-    ensures fact_3 { let size = given_number size_given ram_size in
+    ensures count_after { let size = given_number size_given ram_size in
         let file = range file_start file_end in
         let answer = asked mode isolation size file map.now imports.now ram.old in
         count.new ≡ count_or answer count.old }

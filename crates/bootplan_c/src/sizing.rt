@@ -47,8 +47,8 @@ pub extern "C" fn bootplan_pool_size(
     mem_size: u64,
     size: &mut u64,
 ) -> bool
-    ensures fact_1 { result ≡ is_some (picked_size kind pages host_given host_pages vp_count mem_size) }
-    ensures fact_2 { size.new ≡ or_kept (picked_size kind pages host_given host_pages vp_count mem_size) size.old }
+    ensures value { result ≡ is_some (picked_size kind pages host_given host_pages vp_count mem_size) }
+    ensures size_after { size.new ≡ or_kept (picked_size kind pages host_given host_pages vp_count mem_size) size.old }
 {
     let picked = dma_hint::pick_private_pool_size(
         config_of(kind, pages),
