@@ -16,7 +16,7 @@ use Rattle.table_words.specs.List.{range_rows, range_in, ranges_in, column}
 use Rattle.table_words.specs.Laws.Rows.{length-rows}
 
 -- places that hold 0 at first
-abbrev zeros : ℕ → List ℕ
+abbrev pub zeros : ℕ → List ℕ
 zeros room = replicate room 0
 
 pub map-lent : (m : List MemoryEntry) {n count : ℕ} {ss es ns : List ℕ} {ls : List Bool} → ss ≡ sets (zeros map_room) 0 (map_starts_of m)

@@ -36,14 +36,9 @@ use Rattle.plan_input.specs.Room.{map_room, import_room}
 use Rattle.plan_input.specs.Laws.Room.{choice_room}
 use Rattle.table_words.specs.Code.{done_code, no_room, bad_number}
 use Rattle.table_words.specs.List.{ranges_in}
-use Rattle.selection_calls.specs.Selection.{mode_of, isolation_of, word_entries, map_stands, numbers_stand, ram_words, ram_size_of, asked, choice_code, ram_after, count_or, Told, choice_in, count_in, rows_of, rows_long}
+use Rattle.selection_calls.specs.Selection.{mode_of, isolation_of, word_entries, map_stands, numbers_stand, ram_words, ram_size_of, asked, Told, choice_in, count_in, rows_of, rows_long}
 use Rattle.selection_calls.proofs.selection.Laws.{words-length, sets_first, entries_few}
 use Rattle.selection_calls.proofs.selection.Lent.{imports_few}
-
--- its three equations
-pub told-parts : {c : Choice} {ram ram' : List ℕ} {count count' r : ℕ} → Told c ram ram' count count' r
-    → (r ≡ choice_code c) × ((ram' ≡ ram_after c ram) × (count' ≡ count_or c count))
-told-parts t = (t.answer, (t.lent, t.stored))
 
 -- a refusal leaves what is lent as found
 pub told_refused : {c : Choice} {n count : ℕ} {ram : List ℕ} → c ≡ refused n → Told c ram ram count count n
