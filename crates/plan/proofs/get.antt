@@ -1,3 +1,2 @@
 -- The proofs of `get`.
 pub mod Laws
-pub mod Lent

@@ -1,10 +1,9 @@
 -- Laws of the requests of a text: how many it can have, and that 64 bits hold their alignments. The line of a request is the one
 -- that spells it, so its bytes can be counted.
-use Rattle.std.specs.Prelude.{ℕ, ◌+◌, ◌*◌, ◌≤◌, ◌≡◌, refl, List, [], ◌∷◌, ◌++◌, length, drop}
+use Rattle.std.specs.Prelude.{ℕ, ◌+◌, ◌*◌, ◌≤◌, ◌≡◌, refl, List, [], ◌∷◌, length, drop}
 use Rattle.std.proofs.Common.{sym, ◌∙◌, arith, length-append}
 use Rattle.std.proofs.Math.Option.{Option, none, some, none-ne-some}
 use Rattle.memory_range.specs.Bytes.{All}
-use Rattle.memory_range.specs.Laws.Bytes.{all_append}
 use Rattle.host_params.specs.declared.OptionU64.{OptionU64}
 use Rattle.host_params.specs.declared.OptionU64.TheVariants as number
 use Rattle.memory_claims.specs.Claim.{Of64Bits}

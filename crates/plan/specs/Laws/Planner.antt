@@ -1,6 +1,6 @@
 -- Laws of the plan's lines: how many there are, list by list; and of the answer.
-use Rattle.std.specs.Prelude.{ℕ, suc, ◌+◌, ◌≤◌, ◌≡◌, refl, List, [], ◌∷◌, ◌++◌, length, take}
-use Rattle.std.proofs.Common.{ap, ◌∙◌, arith, length-append, length-take-le}
+use Rattle.std.specs.Prelude.{ℕ, ◌+◌, ◌≤◌, ◌≡◌, List, length, take}
+use Rattle.std.proofs.Common.{◌∙◌, arith, length-append, length-take-le}
 use Rattle.memory_range.specs.declared.range.TaggedRange.{TaggedRange}
 use Rattle.memory_range.specs.List.{first_tagged}
 use Rattle.memory_range.specs.Laws.List.{length-tagged}

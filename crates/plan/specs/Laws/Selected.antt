@@ -2,7 +2,6 @@
 use Rattle.std.specs.Prelude.{ℕ, ◌≤◌, ◌≡◌, refl, Bool, ◌||◌, List, length}
 use Rattle.std.proofs.Common.{ap, sym, ◌∙◌, arith}
 use Rattle.memory_range.specs.declared.range.MemoryRange.{MemoryRange}
-use Rattle.memory_range.specs.declared.range.TaggedRange.{TaggedRange}
 use Rattle.memory_range.specs.List.{first_tagged}
 use Rattle.host_params.specs.declared.IsolationType.{IsolationType}
 use Rattle.boot_ram.specs.Held.{bytes_of}
