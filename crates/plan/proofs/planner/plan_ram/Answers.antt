@@ -7,6 +7,7 @@ use Rattle.plan.specs.Laws.Planner.{answers_refused}
 use Rattle.plan.specs.Laws.Selected.{selected_refused, selected-held, selected-chosen, new_empty, init_refused, init-built}
 use Rattle.plan.proofs.planner.plan_ram.Goals as goal
 
+-- the answer's count is at most 64, as long as each of its arrays
 pub slice_bounds-starts-end : goal.slice_bounds-starts-end
 slice_bounds-starts-end c =
     omega (arith, (selected-held c.requires.1 c.in-Chosen.is).few)
@@ -31,6 +32,7 @@ pub slice_bounds-init-end-in-Chosen-2 : goal.slice_bounds-init-end-in-Chosen-2
 slice_bounds-init-end-in-Chosen-2 c =
     simp length-take (omega (arith, (selected-held c.requires.1 c.in-Chosen.is).few))
 
+-- the build on a new table
 pub plan_table-requires : goal.plan_table-requires
 plan_table-requires c =
     let h = selected-held c.requires.1 c.in-Chosen.is in

@@ -2,6 +2,7 @@
 use Prim.Native.Nat.{ℕ}
 use mathlib.Core.Path.{◌≡◌, ap, ◌∙◌}
 use mathlib.Core.List.{List}
+use native.Mathlib.Omega.{arith}
 use lib.ListN.{take}
 use Rattle.memory_range.specs.declared.range.TaggedRange.{TaggedRange}
 use Rattle.address_space.specs.Table.{entries_of}
@@ -25,7 +26,7 @@ write_plan-requires c =
     let a = c.args in
     let held = answer-placed a.table (pages_wanted a.isolation a.pool.pool a.ram_bytes) a.pool.pool.split c.place_pool-placed.ensures c.in-Ranges.is in
     let p = planned a.text.now _ _ (rw (← c.requires.2) at c.requires.3) held in
-    (c.requires.1, pool_few held c.place_pool-placed.type_inv.1.1.1.0.1.0.1, plan_room a.text.now _ a.output.now c.requires.0 p)
+    (c.requires.1, pool_few held (omega arith), plan_room a.text.now _ a.output.now c.requires.0 p)
 
 pub returns-in-Refused : goal.returns-in-Refused
 returns-in-Refused c =
