@@ -30,9 +30,9 @@ module _ {M : Type 1} {𝓤 : Ura M} {𝓛 : Logic 𝓤} {J : Type 0} {Γ : List
 -- What is read of a local that holds a struct. Types and values are any, and equations say which: written out they are long, and a
 -- walk only carries them along.
 module _ {M : Type 1} {𝓤 : Ura M} {𝓛 : Logic 𝓤} {J : Type 0} where
-  -- all of it, as a part of what is held
   open 𝓛 use {H}
 
+  -- all of it, as a part of what is held
   pub cell-at : J → {i : Item 𝓤} (σ : Ty) (l : ℕ) (u : Val) → i ≡ ‵ (fat full_share σ l 0 u) → Part J 𝓛 i full_share σ l 0 u (λ w. ‵ (fat full_share σ l 0 w))
   cell-at t σ l u e = subst (λ (j : Item 𝓤). Part J 𝓛 j full_share σ l 0 u (λ w. ‵ (fat full_share σ l 0 w))) (sym e) (whole t)
 

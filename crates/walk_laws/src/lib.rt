@@ -1,2 +1,2 @@
-// Laws only: what proofs by hand share, whatever function they walk.
+// Laws only: of arrays and structs in memory, for proofs that walk compiled code by hand. None does today.
 #![tactic(auto)]
