@@ -1,16 +1,10 @@
 -- The lists that are reported (docs/SPEC.md, section 23).
-use Rattle.std.specs.Prelude.{ℕ, Bool, cond, ◌&&◌, List, [], ◌∷◌, ◌++◌, map, eqb, drop}
+use Rattle.std.specs.Prelude.{ℕ, Bool, cond, ◌&&◌, List, [], ◌∷◌, ◌++◌, map, eqb, drop, Option, Some, None}
 use Rattle.memory_range.specs.declared.range.MemoryRange.{MemoryRange}
 use Rattle.memory_range.specs.declared.range.TaggedRange.{TaggedRange}
 use Rattle.range_lists.specs.Merge.{merge_adjacent}
-use Rattle.address_space.specs.declared.list.FreeRangeStep.{FreeRangeStep}
-use Rattle.address_space.specs.declared.list.FreeRangeStep.TheVariants as free
 use Rattle.address_space.specs.declared.list.ReservedRange.{ReservedRange}
-use Rattle.address_space.specs.declared.list.ReservedRangeStep.{ReservedRangeStep}
-use Rattle.address_space.specs.declared.list.ReservedRangeStep.TheVariants as reserved
 use Rattle.address_space.specs.declared.list.Vtl2Range.{Vtl2Range}
-use Rattle.address_space.specs.declared.list.Vtl2RangeStep.{Vtl2RangeStep}
-use Rattle.address_space.specs.declared.list.Vtl2RangeStep.TheVariants as vtl2
 use Rattle.address_space.specs.declared.table.AddressRange.{AddressRange}
 use Rattle.address_space.specs.declared.usage.AddressUsage.{AddressUsage}
 use Rattle.address_space.specs.declared.usage.AddressUsage.TheVariants.{Free, Used, Reserved}
@@ -57,14 +51,14 @@ free_ranges n [] = []
 free_ranges n (e ∷ es) = cond (is_free_on n e) (e.range ∷ free_ranges n es) (free_ranges n es)
 
 -- what a step's answer stands for: the item that it yields and those from its index on
-abbrev pub vtl2_stepped : List AddressRange → Vtl2RangeStep → List TaggedRange
-vtl2_stepped es (vtl2.Range r next) = numbered_range r ∷ vtl2_ranges (drop next es)
-vtl2_stepped es vtl2.End = []
+abbrev pub vtl2_stepped : List AddressRange → Option (Vtl2Range × ℕ) → List TaggedRange
+vtl2_stepped es (Some (r, next)) = numbered_range r ∷ vtl2_ranges (drop next es)
+vtl2_stepped es None = []
 
-abbrev pub reserved_stepped : List AddressRange → ReservedRangeStep → List ReservedRange
-reserved_stepped es (reserved.Range r next) = r ∷ reserved_ranges (drop next es)
-reserved_stepped es reserved.End = []
+abbrev pub reserved_stepped : List AddressRange → Option (ReservedRange × ℕ) → List ReservedRange
+reserved_stepped es (Some (r, next)) = r ∷ reserved_ranges (drop next es)
+reserved_stepped es None = []
 
-abbrev pub free_stepped : ℕ → List AddressRange → FreeRangeStep → List MemoryRange
-free_stepped n es (free.Range r next) = r ∷ free_ranges n (drop next es)
-free_stepped n es free.End = []
+abbrev pub free_stepped : ℕ → List AddressRange → Option (MemoryRange × ℕ) → List MemoryRange
+free_stepped n es (Some (r, next)) = r ∷ free_ranges n (drop next es)
+free_stepped n es None = []

@@ -1,9 +1,7 @@
 -- The search (docs/SPEC.md, section 22): low looks at the entries from the bottom up, high from the top down.
-use Rattle.std.specs.Prelude.{ℕ, ◌-◌, Bool, cond, List, [], ◌∷◌, reverse, length}
+use Rattle.std.specs.Prelude.{ℕ, ◌-◌, Bool, cond, List, [], ◌∷◌, reverse, length, Option, None, Some}
 use Rattle.host_params.specs.declared.AllocationPolicy.{AllocationPolicy}
 use Rattle.host_params.specs.declared.AllocationPolicy.TheVariants.{LowMemory, HighMemory}
-use Rattle.address_space.specs.declared.search.Place.{Place}
-use Rattle.address_space.specs.declared.search.Place.TheVariants.{At, Nowhere}
 
 -- a search ends at nothing, or at an element, with those looked at before it and those not looked at
 pub data Search (A : Type 0) : Type 0 where
@@ -42,7 +40,7 @@ abbrev pub place_at : AllocationPolicy → ℕ → ℕ → ℕ
 place_at LowMemory n k = k
 place_at HighMemory n k = n - 1 - k
 
--- the index of the element found
-abbrev pub place_found : {A : Type 0} → AllocationPolicy → Search A → Place
-place_found policy nothing = Nowhere
-place_found policy (found before x after) = At (length (below_in policy before after))
+-- the index of the element found, if there is one
+abbrev pub place_found : {A : Type 0} → AllocationPolicy → Search A → Option ℕ
+place_found policy nothing = None
+place_found policy (found before x after) = Some (length (below_in policy before after))

@@ -14,9 +14,7 @@ mod split;
 mod table;
 mod usage;
 
-pub use list::{
-    FreeRangeStep, ReservedRange, ReservedRangeStep, Vtl2Range, Vtl2RangeStep, Vtl2Ranges,
-};
-pub use request::{Allocated, AllocatedRange, Allocation};
+pub use list::{ReservedRange, Vtl2Range, Vtl2Ranges};
+pub use request::{AllocatedRange, Allocation};
 pub use table::{AddressRange, AddressSpaceManager, MAX_ADDRESS_RANGES};
 pub use usage::{AddressUsage, ReservedMemoryType, USED, reserved_number, type_number, usage_of};

@@ -1,50 +1,25 @@
 // The search for an entry that fits.
-ghost use Rattle.std.specs.Prelude.{◌≡◌, ◌<◌};
+ghost use Rattle.std.specs.Prelude.{◌≡◌};
 ghost use Rattle.address_space.specs.Fit.{fits_in};
-ghost use Rattle.address_space.specs.Search.{place_at, searched, place_found};
-ghost use Rattle.address_space.specs.Table.{entries_of};
+ghost use Rattle.address_space.specs.Search.{searched, place_found};
 
 use crate::fit::fits_in;
-use crate::table::AddressSpaceManager;
-use host_params::{AllocationPolicy, OptionU32, OptionU64};
+use crate::table::AddressRange;
+use host_params::AllocationPolicy;
 
-// The index of the chosen entry in the table, or that there is none.
-#[derive(Clone, Copy)]
-pub(crate) enum Place {
-    At(usize),
-    Nowhere,
-}
-
-// The index of the entry that the search looks at after so many others.
-fn place_at(policy: AllocationPolicy, count: usize, seen: usize) -> usize
-    requires { seen < count }
-    ensures { result ≡ place_at policy count seen }
-{
-    match policy {
-        AllocationPolicy::LowMemory => seen,
-        AllocationPolicy::HighMemory => count - 1 - seen,
-    }
-}
-
-// Low looks from the bottom, high from the top.
+// The index of the chosen entry, if there is one. Low looks from the bottom, high from the top.
 pub(crate) fn find_index(
-    manager: AddressSpaceManager,
-    required_vnode: OptionU32,
+    entries: &[AddressRange],
+    required_vnode: Option<u32>,
     len: u64,
     policy: AllocationPolicy,
-    alignment: OptionU64,
-) -> Place
-    ensures { result ≡ place_found policy (searched policy (fits_in required_vnode len alignment) (entries_of manager)) }
+    alignment: Option<u64>,
+) -> Option<usize>
+    ensures { result ≡ place_found policy (searched policy (fits_in required_vnode len alignment) entries.now) }
 {
-    let count = manager.len();
-    let mut seen = 0;
-    while seen < count {
-        let at = place_at(policy, count, seen);
-        let entry = manager.address_space[at];
-        if fits_in(entry, required_vnode, len, alignment) {
-            return Place::At(at);
-        }
-        seen += 1;
+    let fits = |entry: &AddressRange| fits_in(*entry, required_vnode, len, alignment);
+    match policy {
+        AllocationPolicy::LowMemory => entries.iter().position(fits),
+        AllocationPolicy::HighMemory => entries.iter().rposition(fits),
     }
-    Place::Nowhere
 }

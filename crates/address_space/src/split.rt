@@ -48,10 +48,7 @@ fn handed_out(range: MemoryRange, vnode: u32, usage: AddressUsage) -> AddressRan
 fn part_count(start: u64, end: u64) -> usize
     ensures { result ≡ part_count start end }
 {
-    if start < end {
-        return 1;
-    }
-    0
+    usize::from(start < end)
 }
 
 // How many entries the split adds to the table.

@@ -15,6 +15,8 @@ pub struct AddressRange {
     pub usage: AddressUsage,
 }
 
+// A list with room for 256 entries, in an array with a count: no heap, and by value, as document 01 wants
+// the table handed in and out.
 #[derive(Clone, Copy)]
 pub struct AddressSpaceManager {
     // The first `count` of them are the table, in order of address where a build made it.
@@ -45,10 +47,14 @@ impl AddressSpaceManager {
     pub fn len(self) -> usize
         ensures { result ≡ length (entries_of self) }
     {
-        if self.count <= MAX_ADDRESS_RANGES {
-            return self.count;
-        }
-        MAX_ADDRESS_RANGES
+        self.count.min(MAX_ADDRESS_RANGES)
+    }
+
+    // The entries.
+    pub fn entries(&self) -> &[AddressRange]
+        ensures { result.now ≡ entries_of self.now }
+    {
+        &self.address_space[..self.count.min(MAX_ADDRESS_RANGES)]
     }
 
     // Whether the private pool has a range.

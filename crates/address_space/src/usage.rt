@@ -55,11 +55,7 @@ impl AddressUsage {
     pub fn is_free(self) -> bool
         ensures { result ≡ is_free self }
     {
-        match self {
-            AddressUsage::Free => true,
-            AddressUsage::Used => false,
-            AddressUsage::Reserved(_) => false,
-        }
+        matches!(self, AddressUsage::Free)
     }
 
     // The type that the kernel is told: free and used memory is RAM to it.
@@ -77,7 +73,7 @@ impl AddressUsage {
 // The number of what is used and not reserved.
 pub const USED: u32 = 0;
 
-// A number for each type, so that two can be compared.
+// A number for each type: a range in a list of tagged ranges carries it, in the definitions as well.
 pub fn type_number(vtl_type: MemoryVtlType) -> u32
     ensures { result ≡ type_number vtl_type }
 {
@@ -95,7 +91,7 @@ pub fn type_number(vtl_type: MemoryVtlType) -> u32
     }
 }
 
-// The number of a reserved type, so that it goes with a range in lists of numbers.
+// The number of a reserved type, as a range in a list of tagged ranges carries it.
 pub fn reserved_number(reserved: ReservedMemoryType) -> u32
     ensures { result ≡ reserved_number_of reserved }
 {
@@ -103,6 +99,7 @@ pub fn reserved_number(reserved: ReservedMemoryType) -> u32
 }
 
 // Of a number that no reserved type has, used.
+#[tactic(auto, unfolding(crate::specs::Usage::usage_of))]
 pub fn usage_of(number: u32) -> AddressUsage
     ensures { result ≡ usage_of number }
 {
@@ -134,9 +131,5 @@ pub(crate) fn usage_for(allocation_type: AllocationType) -> AddressUsage
 pub(crate) fn is_pool(allocation_type: AllocationType) -> bool
     ensures { result ≡ is_pool allocation_type }
 {
-    match allocation_type {
-        AllocationType::GpaPool => true,
-        AllocationType::SidecarNode => false,
-        AllocationType::TdxPageTables => false,
-    }
+    matches!(allocation_type, AllocationType::GpaPool)
 }

@@ -1,6 +1,5 @@
 -- A node's share of the RAM size (docs/SPEC.md, section 19).
-use Rattle.std.specs.Prelude.{ℕ, ◌/◌}
-use Rattle.memory_range.specs.declared.round.RoundedUp.{RoundedUp}
+use Rattle.std.specs.Prelude.{ℕ, ◌/◌, Option}
 use Rattle.memory_range.specs.Round.{round_up, rounded_up}
 
 -- eight pages
@@ -12,5 +11,5 @@ abbrev pub share_of : ℕ → ℕ → ℕ
 share_of size n = round_up share_step (size / n)
 
 -- the same as an answer of 64 bits
-abbrev pub share_per_node : ℕ → ℕ → RoundedUp
+abbrev pub share_per_node : ℕ → ℕ → Option ℕ
 share_per_node size n = rounded_up share_step (size / n)

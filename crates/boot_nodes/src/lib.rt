@@ -4,5 +4,5 @@
 mod node;
 mod share;
 
-pub use node::{NumaNodes, numa_node_count, numa_nodes, numa_nodes_in};
+pub use node::{NumaNodes, numa_node_count, numa_nodes};
 pub use share::{ALIGNMENT_GRANULARITY, ram_per_node};

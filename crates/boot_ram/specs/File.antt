@@ -1,6 +1,5 @@
 -- The walk of the file's range with the map (docs/SPEC.md, section 19).
-use Rattle.std.specs.Prelude.{ℕ, List, [], ◌∷◌, map, length, get_or}
-use Rattle.std.proofs.Math.Option.{Option, none, some}
+use Rattle.std.specs.Prelude.{ℕ, List, [], ◌∷◌, map, get_or}
 use Rattle.memory_range.specs.declared.range.MemoryRange.{MemoryRange}
 use Rattle.memory_range.specs.declared.range.TaggedRange.{TaggedRange}
 use Rattle.range_lists.specs.declared.walk.RangeWalkResult.{RangeWalkResult}
@@ -8,8 +7,6 @@ use Rattle.range_lists.specs.declared.walk.RangeWalkResult.TheVariants.{Left, Ri
 use Rattle.range_lists.specs.declared.walk.WalkPiece.{WalkPiece}
 use Rattle.memory_range.specs.List.{ranges_in, tags_of}
 use Rattle.range_lists.specs.Walk.{walk}
-use Rattle.boot_ram.specs.declared.file.FilePieces.{FilePieces}
-use Rattle.boot_ram.specs.declared.file.FilePieces.TheVariants.{Count, Refused}
 use Rattle.boot_ram.specs.Verdict.{Verdict, free, choose, refuse, Judged, judged}
 use Rattle.refusal.specs.Number.{file_not_in_map}
 
@@ -30,11 +27,3 @@ file_verdicts m ps = map (λ p. file_verdict m p.range p.result) ps
 -- part 1: the file walk
 unfoldable pub file_walk : MemoryRange → List TaggedRange → Judged
 file_walk file m = judged 0 0 (file_verdicts m (walk (file ∷ []) (ranges_in m)))
-
--- its counts, or its refusal, as an answer
-abbrev pub file_pieces_as : Option ℕ → ℕ → ℕ → FilePieces
-file_pieces_as none c f = Count c f
-file_pieces_as (some r) c f = Refused r
-
-abbrev pub file_pieces_of : Judged → FilePieces
-file_pieces_of j = file_pieces_as j.refusal (length j.chosen) (length j.free)

@@ -7,6 +7,10 @@ use Rattle.memory_range.specs.List.{ranges_in}
 use Rattle.memory_range.specs.Valid.{page_size}
 use Rattle.boot_ram.specs.Verdict.{Verdict, free, choose, refuse, pass, max_free, max_chosen}
 
+-- a range with a node, as it is held
+abbrev pub holding : MemoryRange → ℕ → TaggedRange
+holding r n = record { range = r; tag = n }
+
 -- the entries of a node
 abbrev pub on_node : ℕ → List TaggedRange → List TaggedRange
 on_node n [] = []

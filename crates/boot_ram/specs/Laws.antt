@@ -1,6 +1,5 @@
 -- Laws of the walks of boot selection. File and Import say what the definitions mean, and Wrong what they do not;
 -- the others are steps to them and to the proofs, and serve the parts that come after.
-pub mod Answer
 pub mod ByNode
 pub mod File
 pub mod Import
@@ -9,5 +8,4 @@ pub mod OnNode
 pub mod Paged
 pub mod Verdict
 pub mod Walks
-pub mod Written
 pub mod Wrong

@@ -1,8 +1,8 @@
 // The taking of free memory in boot selection: each node gives what its share lacks beside the file's
 // pieces.
 //
-// The chosen pieces are written to arrays that the caller lends; a refusal leaves in them the pieces
-// written before it.
+// The chosen pieces are put into a list that the caller lends; a refusal leaves in it the pieces that
+// were chosen before it.
 #![tactic(auto)]
 
 mod take;

@@ -1,14 +1,11 @@
 -- A table of words built from lists of words (docs/SPEC.md, section 31; the rule is section 24).
-use Rattle.std.specs.Prelude.{ℕ, Bool, cond, ◌||◌, List, length}
-use Rattle.std.proofs.Math.Option.{Option, none, some}
+use Rattle.std.specs.Prelude.{ℕ, List, Option, Some, None, Err}
 use Rattle.memory_range.specs.declared.range.MemoryRange.{MemoryRange}
 use Rattle.memory_range.specs.Range.{range}
-use Rattle.memory.specs.Build.{Build, build, has_pool}
-use Rattle.memory.specs.Build as outcome
-use Rattle.table_words.specs.Code.{Call, refused, done, lent_after, bad_number, bad_table}
-use Rattle.table_words.specs.List.{ranges_in, rams_in}
-use Rattle.table_words.specs.Table.{Table, table, table_of, written}
-use Rattle.table_calls.specs.Build.{builder_of, given_good}
+use Rattle.table_words.specs.declared.code.CallError.TheVariants.{BadTable}
+use Rattle.table_words.specs.Code.{Call, lent_after}
+use Rattle.table_words.specs.Table.{Table, table_of, written}
+use Rattle.table_calls.specs.Build.{words_build}
 
 -- what a build is given: the used range and the persisted state, and words for the RAM list, the optional ranges, the config ranges
 -- and the pool ranges
@@ -25,20 +22,10 @@ abbrev pub given : ℕ → ℕ → ℕ → ℕ → List ℕ → List ℕ → Lis
 given us ue ss se ram reserved configs pools =
     record { used = range us ue; state = range ss se; ram = ram; reserved = reserved; configs = configs; pools = pools }
 
--- a build as a call
-abbrev pub built_call : Bool → Build → Call Table
-built_call flag (outcome.refused n) = refused n
-built_call flag (outcome.built es) = done (table es flag)
-
-abbrev pub build_words : Given → Table → Call Table
-build_words g t =
-    built_call (t.flag || has_pool (ranges_in g.pools))
-    (build (builder_of g.used g.state g.reserved) (length t.entries) (rams_in g.ram) (ranges_in g.configs) (ranges_in g.pools))
-
 -- a bad table, then lists that stand for nothing, then the build
 abbrev pub build_on : Given → Option Table → Call Table
-build_on g none = refused bad_table
-build_on g (some t) = cond (given_good g.ram g.reserved g.configs g.pools) (build_words g t) (refused bad_number)
+build_on g None = Err BadTable
+build_on g (Some t) = words_build g.used g.state t g.ram g.reserved g.configs g.pools
 
 unfoldable pub build_call : Given → List ℕ → Call Table
 build_call g words = build_on g (table_of words)

@@ -1,12 +1,12 @@
 -- The private pool placed in a table of words (docs/SPEC.md, section 31; the rule is section 26).
-use Rattle.std.specs.Prelude.{ℕ, Bool, true, cond, List, ltb, length}
-use Rattle.std.proofs.Math.Option.{Option, none, some}
+use Rattle.std.specs.Prelude.{ℕ, Bool, true, cond, List, ltb, length, Option, Some, None, Ok, Err}
 use Rattle.std.proofs.lemmas.List.Edits.{sets}
 use Rattle.address_space.specs.declared.request.AllocatedRange.{AllocatedRange}
 use Rattle.address_space.specs.declared.table.AddressRange.{AddressRange}
 use Rattle.private_pool.specs.Pool.{Placement, pool_placed}
 use Rattle.private_pool.specs.Pool as placement
-use Rattle.table_words.specs.Code.{Call, refused, done, lent_after, no_room, bad_table}
+use Rattle.table_words.specs.declared.code.CallError.TheVariants.{Refused, NoRoom, BadTable}
+use Rattle.table_words.specs.Code.{Call, lent_after}
 use Rattle.table_words.specs.Table.{Table, table_of, written}
 use Rattle.table_calls.specs.Pool.{pieces_room, pieces_words}
 
@@ -17,16 +17,16 @@ pub record Placed : Type 0 where
 
 -- a placement as a call
 abbrev pub placed_call : Placement → Call Placed
-placed_call (placement.refused n) = refused n
-placed_call (placement.placed xs es) = done (record { pieces = xs; entries = es })
+placed_call (placement.refused r) = Err (Refused r)
+placed_call (placement.placed xs es) = Ok (record { pieces = xs; entries = es })
 
 abbrev pub pool_on : ℕ → Bool → Option Table → Call Placed
-pool_on pages split none = refused bad_table
-pool_on pages split (some t) = placed_call (pool_placed pages split t.entries)
+pool_on pages split None = Err BadTable
+pool_on pages split (Some t) = placed_call (pool_placed pages split t.entries)
 
 -- the room, then the table, then the placement
 unfoldable pub pool_call : ℕ → Bool → List ℕ → ℕ → Call Placed
-pool_call pages split words room = cond (ltb room pieces_room) (refused no_room) (pool_on pages split (table_of words))
+pool_call pages split words room = cond (ltb room pieces_room) (Err NoRoom) (pool_on pages split (table_of words))
 
 -- the table, the pieces and their count afterwards
 abbrev pub pool_table : List ℕ → Call Placed → List ℕ

@@ -1,8 +1,8 @@
 -- Requests made of a table of words (docs/SPEC.md, section 31).
-use Rattle.std.specs.Prelude.{ℕ, ◌*◌, ◌/◌, ◌%◌, cond, List, eqb, ltb, length}
-use Rattle.std.proofs.Math.Option.{Option, none, some}
+use Rattle.std.specs.Prelude.{ℕ, ◌*◌, ◌/◌, ◌%◌, cond, List, eqb, ltb, length, Option, Some, None, Ok, Err}
 use Rattle.std.proofs.lemmas.List.Edits.{sets}
-use Rattle.table_words.specs.Code.{Call, refused, done, lent_after, no_room, bad_number, bad_table}
+use Rattle.table_words.specs.declared.code.CallError.TheVariants.{NoRoom, BadNumber, BadTable}
+use Rattle.table_words.specs.Code.{Call, lent_after}
 use Rattle.table_words.specs.Table.{Table, table_of, written}
 use Rattle.table_calls.specs.Request.{answers_on, after_all, request_rows}
 
@@ -12,13 +12,13 @@ pub record Answered : Type 0 where
 
 -- a bad table, then a length that is no multiple of a request's words, then the answers
 abbrev pub requests_on : List ℕ → Option Table → Call Answered
-requests_on ws none = refused bad_table
-requests_on ws (some t) =
-    cond (eqb (length ws % 5) 0) (done (record { answers = answers_on (request_rows ws) t; after = after_all (request_rows ws) t })) (refused bad_number)
+requests_on ws None = Err BadTable
+requests_on ws (Some t) =
+    cond (eqb (length ws % 5) 0) (Ok (record { answers = answers_on (request_rows ws) t; after = after_all (request_rows ws) t })) (Err BadNumber)
 
 -- room for the answers comes first, four words for each
 unfoldable pub request_call : List ℕ → List ℕ → ℕ → Call Answered
-request_call words requests room = cond (ltb room (4 * (length requests / 5))) (refused no_room) (requests_on requests (table_of words))
+request_call words requests room = cond (ltb room (4 * (length requests / 5))) (Err NoRoom) (requests_on requests (table_of words))
 
 -- the table and the answers afterwards
 abbrev pub request_table : List ℕ → Call Answered → List ℕ

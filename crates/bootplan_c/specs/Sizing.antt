@@ -1,6 +1,5 @@
 -- How C says a pool's kind and the host's pages, and how it is told a size (docs/SPEC.md, section 18).
-use Rattle.std.specs.Prelude.{ℕ, Bool, true, false, cond, eqb}
-use Rattle.std.proofs.Math.Option.{Option, none, some}
+use Rattle.std.specs.Prelude.{ℕ, Bool, true, false, cond, eqb, Option, Some, None}
 use Rattle.host_params.specs.declared.Vtl2GpaPoolConfig.{Vtl2GpaPoolConfig}
 use Rattle.host_params.specs.declared.Vtl2GpaPoolConfig.TheVariants.{Heuristics, Off, Pages}
 use Rattle.host_params.specs.declared.Vtl2GpaPoolLookupTable.TheVariants.{Release, Debug}
@@ -17,10 +16,10 @@ abbrev pub picked_size : ℕ → ℕ → Bool → ℕ → ℕ → ℕ → Option
 picked_size kind pages given host_pages processors bytes = pool_size (config_of kind pages) (given_number given host_pages) processors bytes
 
 abbrev pub is_some : Option ℕ → Bool
-is_some none = false
-is_some (some pages) = true
+is_some None = false
+is_some (Some pages) = true
 
 -- the number, or what was there before
 abbrev pub or_kept : Option ℕ → ℕ → ℕ
-or_kept none before = before
-or_kept (some pages) before = pages
+or_kept None before = before
+or_kept (Some pages) before = pages

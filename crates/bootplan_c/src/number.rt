@@ -1,14 +1,9 @@
-// A number that need not be given.
+// A number that need not be given. C has no Option, so a flag stands beside it.
 ghost use Rattle.std.specs.Prelude.{◌≡◌};
 ghost use Rattle.bootplan_c.specs.Number.{given_number};
 
-use host_params::OptionU64;
-
-pub(crate) fn given_number(given: bool, number: u64) -> OptionU64
+pub(crate) fn given_number(given: bool, number: u64) -> Option<u64>
     ensures { result ≡ given_number given number }
 {
-    if given {
-        return OptionU64::Some(number);
-    }
-    OptionU64::None
+    given.then_some(number)
 }

@@ -5,7 +5,6 @@ ghost use Rattle.dma_hint.specs.Hint.{dma_hint_of};
 ghost use Rattle.bootplan_c.specs.Sizing.{config_of, picked_size, is_some, or_kept};
 
 use crate::number::given_number;
-use dma_hint::PoolSize;
 use host_params::{Vtl2GpaPoolConfig, Vtl2GpaPoolLookupTable};
 
 // The release table's hint, in pages.
@@ -57,8 +56,8 @@ pub extern "C" fn bootplan_pool_size(
         mem_size,
     );
     match picked {
-        PoolSize::None => false,
-        PoolSize::Pages(pages) => {
+        None => false,
+        Some(pages) => {
             *size = pages;
             true
         }

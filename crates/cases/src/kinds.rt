@@ -1,21 +1,27 @@
 // Numbers for what memory is for, as bindings/bootplan.h has them for an entry of a table. Memory that is
 // reported as RAM has the number of free memory.
 use address_space::{AddressUsage, ReservedMemoryType};
-use host_params::{MemoryVtlType, OptionU64};
+use host_params::MemoryVtlType;
+
+fn reserved(number: u64) -> ReservedMemoryType {
+    match number {
+        2 => ReservedMemoryType::Vtl2Config,
+        3 => ReservedMemoryType::Vtl2Reserved,
+        4 => ReservedMemoryType::SidecarImage,
+        5 => ReservedMemoryType::SidecarNode,
+        6 => ReservedMemoryType::Vtl2GpaPool,
+        7 => ReservedMemoryType::TdxPageTables,
+        8 => ReservedMemoryType::BootshimLogBuffer,
+        9 => ReservedMemoryType::PersistedStateHeader,
+        _ => ReservedMemoryType::PersistedStatePayload,
+    }
+}
 
 pub(crate) fn usage(number: u64) -> AddressUsage {
     match number {
         0 => AddressUsage::Free,
         1 => AddressUsage::Used,
-        2 => AddressUsage::Reserved(ReservedMemoryType::Vtl2Config),
-        3 => AddressUsage::Reserved(ReservedMemoryType::Vtl2Reserved),
-        4 => AddressUsage::Reserved(ReservedMemoryType::SidecarImage),
-        5 => AddressUsage::Reserved(ReservedMemoryType::SidecarNode),
-        6 => AddressUsage::Reserved(ReservedMemoryType::Vtl2GpaPool),
-        7 => AddressUsage::Reserved(ReservedMemoryType::TdxPageTables),
-        8 => AddressUsage::Reserved(ReservedMemoryType::BootshimLogBuffer),
-        9 => AddressUsage::Reserved(ReservedMemoryType::PersistedStateHeader),
-        _ => AddressUsage::Reserved(ReservedMemoryType::PersistedStatePayload),
+        _ => AddressUsage::Reserved(reserved(number)),
     }
 }
 
@@ -57,9 +63,6 @@ pub(crate) fn vtl_type_number(vtl_type: MemoryVtlType) -> u64 {
 }
 
 // A number that may be absent: the second of two words, where the first is 1.
-pub(crate) fn optional(is_given: u64, number: u64) -> OptionU64 {
-    match is_given {
-        0 => OptionU64::None,
-        _ => OptionU64::Some(number),
-    }
+pub(crate) fn optional(is_given: u64, number: u64) -> Option<u64> {
+    (is_given != 0).then_some(number)
 }

@@ -1,17 +1,14 @@
-// The operations by the first eight bytes of their names, in ASCII, as one number.
-use super::words::byte_at;
+// The operations by the first eight bytes of their names, in ASCII, as one number: so a name with zero bytes
+// in front is that name.
 
 // The operation whose name a line starts with.
 pub(crate) fn op_of(line: &[u8]) -> u64 {
-    let mut op: u64 = 0;
-    for i in 0..8 {
-        let byte = byte_at(line, i);
-        if byte == b' ' {
-            return op;
-        }
-        op = op % 0x100_0000_0000_0000 * 256 + byte as u64;
-    }
-    op
+    line.iter()
+        .take(8)
+        .take_while(|byte| **byte != b' ')
+        .fold(0, |op, byte| {
+            op % 0x100_0000_0000_0000 * 256 + u64::from(*byte)
+        })
 }
 
 // Ranges and numbers.

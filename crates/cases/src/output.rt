@@ -4,25 +4,34 @@ use super::answer::Answer;
 use super::kinds::usage;
 use super::ops;
 use super::ranges::range;
-use super::words::{
-    First, UNKNOWN, byte_part, low_32_bits, one, put_bytes, same_row, same_word, two,
-};
+use super::words::{Stored, low_32_bits, part, words_at};
 use memory_range::MemoryRange;
-use plan::{OUTPUT_SIZE, Planned};
+use plan::OUTPUT_SIZE;
 use plan_output::{
-    LINE_SIZE, Put, put_number, put_word, write_got, write_map, write_no, write_pool, write_ram,
+    LINE_SIZE, put_number, put_word, write_got, write_map, write_no, write_pool, write_ram,
 };
-use std::io::Stdout;
+
+// Puts bytes at the start of the output, and answers how many.
+fn put_front(output: &mut [u8; OUTPUT_SIZE], bytes: &[u8]) -> usize {
+    let count = bytes.len().min(OUTPUT_SIZE);
+    output[..count].copy_from_slice(&bytes[..count]);
+    count
+}
 
 // What was put in eight bytes: 1 and the place behind it, or 0, and the bytes.
-fn put_in(out: Stdout, behind: Put, buffer: &[u8; 8], stored: &[u64], output: &mut [u8]) -> Answer {
-    let row = match behind {
-        Put::To(place) => two(1, place as u64),
-        Put::NoRoom => one(0),
+fn put_in(
+    stored: Stored,
+    behind: Option<usize>,
+    buffer: &[u8; 8],
+    output: &mut [u8; OUTPUT_SIZE],
+) -> Answer {
+    let words = match behind {
+        Some(place) => stored.same_words(0, &[1, place as u64]),
+        None => stored.same_word(0, 0),
     };
     Answer {
-        words: same_row(out, stored, 0, row),
-        bytes: put_bytes(output, 0, buffer),
+        words,
+        bytes: put_front(output, buffer),
     }
 }
 
@@ -37,77 +46,73 @@ fn write(op: u64, range: MemoryRange, last: u64, line: &mut [u8; LINE_SIZE]) -> 
     }
 }
 
-// Puts so many bytes of a line's buffer at the start of the output.
-fn put_line(output: &mut [u8], line: &[u8; LINE_SIZE], len: usize) -> usize {
-    put_bytes(output, 0, byte_part(line, 0, len))
-}
-
 // So many bytes of the output.
 pub(crate) fn output_part(output: &[u8; OUTPUT_SIZE], len: usize) -> &[u8] {
-    byte_part(output, 0, len)
+    part(output, 0, len)
 }
 
 // The end of an answer without words, where all bytes from a place on are as found.
-fn changed(output: &[u8; OUTPUT_SIZE], from: usize) -> usize {
-    for at in from..OUTPUT_SIZE {
-        if output[at] != b'.' {
-            return UNKNOWN;
-        }
-    }
-    0
+fn unchanged(output: &[u8; OUTPUT_SIZE], from: usize) -> Option<usize> {
+    output
+        .iter()
+        .skip(from)
+        .all(|byte| *byte == b'.')
+        .then_some(0)
 }
 
 // A text's plan, or the line of its refusal, which leaves the output as found.
 pub(crate) fn planned(text: &[u8], output: &mut [u8; OUTPUT_SIZE]) -> Answer {
     match plan::plan(text, output) {
-        Planned::Written(len) => Answer {
-            words: changed(output, len),
+        Ok(len) => Answer {
+            words: unchanged(output, len),
             bytes: len,
         },
-        Planned::Refused(number) => {
-            let words = changed(output, 0);
+        Err(refusal) => {
+            let words = unchanged(output, 0);
             let mut line = [0u8; LINE_SIZE];
-            let len = write_no(&mut line, number);
+            let len = write_no(&mut line, refusal.number());
             Answer {
                 words,
-                bytes: put_line(output, &line, len),
+                bytes: put_front(output, part(&line, 0, len)),
             }
         }
     }
 }
 
-fn number_put(out: Stdout, given: First, stored: &[u64], output: &mut [u8]) -> Answer {
+fn number_put(stored: Stored, words: &[u64], output: &mut [u8; OUTPUT_SIZE]) -> Answer {
+    let [at, number] = words_at::<2>(words, 0);
     let mut buffer = [b'.'; 8];
-    let behind = put_number(&mut buffer, given.w0 as usize, given.w1);
-    put_in(out, behind, &buffer, stored, output)
+    let behind = put_number(&mut buffer, at as usize, number);
+    put_in(stored, behind, &buffer, output)
 }
 
-fn word_put(out: Stdout, given: First, stored: &[u64], output: &mut [u8]) -> Answer {
+fn word_put(stored: Stored, words: &[u64], output: &mut [u8; OUTPUT_SIZE]) -> Answer {
+    let [at] = words_at::<1>(words, 0);
     let mut buffer = [b'.'; 8];
-    let behind = put_word(&mut buffer, given.w0 as usize, b"word");
-    put_in(out, behind, &buffer, stored, output)
+    let behind = put_word(&mut buffer, at as usize, b"word");
+    put_in(stored, behind, &buffer, output)
 }
 
 // A line's length, and all of its buffer.
-fn line(out: Stdout, op: u64, given: First, stored: &[u64], output: &mut [u8]) -> Answer {
+fn line(stored: Stored, op: u64, words: &[u64], output: &mut [u8; OUTPUT_SIZE]) -> Answer {
+    let [start, end, last] = words_at::<3>(words, 0);
     let mut buffer = [b'.'; LINE_SIZE];
-    let len = write(op, range(given.w0, given.w1), given.w2, &mut buffer);
+    let len = write(op, range(start, end), last, &mut buffer);
     Answer {
-        words: same_word(out, stored, 0, len as u64),
-        bytes: put_line(output, &buffer, LINE_SIZE),
+        words: stored.same_word(0, len as u64),
+        bytes: put_front(output, &buffer),
     }
 }
 
 pub(crate) fn answer(
-    out: Stdout,
+    stored: Stored,
     op: u64,
-    given: First,
-    stored: &[u64],
-    output: &mut [u8],
+    words: &[u64],
+    output: &mut [u8; OUTPUT_SIZE],
 ) -> Answer {
     match op {
-        ops::PUT_NUMBER => number_put(out, given, stored, output),
-        ops::PUT_WORD => word_put(out, given, stored, output),
-        _ => line(out, op, given, stored, output),
+        ops::PUT_NUMBER => number_put(stored, words, output),
+        ops::PUT_WORD => word_put(stored, words, output),
+        _ => line(stored, op, words, output),
     }
 }

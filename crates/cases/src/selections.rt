@@ -1,35 +1,33 @@
 // Selections. An entry of a map is four words: start, end, node, and 1 where it is protectable.
 use super::kinds::optional;
 use super::line::Case;
+use super::lists::ranges_of;
 use super::ranges::range;
-use super::words::{
-    First, Row, end_of, first_words, low_32_bits, one, row_at, same_row, three, unknown, wide,
-};
-use host_map::{MAP_ROOM, no_entry};
+use super::words::{Stored, low_32_bits, words_at};
+use host_map::MAP_ROOM;
 use host_params::{
     IsolationType, MAX_VTL2_RAM_RANGES, MemoryAllocationMode, MemoryEntry, MemoryMapEntryType,
 };
-use std::io::Stdout;
-use vtl2_ram::{Selection, Vtl2Ram, select_from_array};
+use memory_range::{MemoryRange, TaggedRange};
+use refusal::Refusal;
+use std::array;
+use vtl2_ram::{Vtl2Ram, select_vtl2_ram};
 
-fn entry_of(row: [u64; 4]) -> MemoryEntry {
-    let mem_type = match row[3] {
+fn entry_of(words: [u64; 4]) -> MemoryEntry {
+    let [start, end, node, is_protectable] = words;
+    let mem_type = match is_protectable {
         0 => MemoryMapEntryType::Memory,
         _ => MemoryMapEntryType::Vtl2Protectable,
     };
     MemoryEntry {
-        range: range(row[0], row[1]),
-        vnode: low_32_bits(row[2]),
+        range: range(start, end),
+        vnode: low_32_bits(node),
         mem_type,
     }
 }
 
 fn map_of(words: &[u64]) -> [MemoryEntry; MAP_ROOM] {
-    let mut map = [no_entry(); MAP_ROOM];
-    for i in 0..MAP_ROOM {
-        map[i] = entry_of(row_at(words, i));
-    }
-    map
+    array::from_fn(|i| entry_of(words_at(words, 4 * i)))
 }
 
 fn mode(number: u64) -> MemoryAllocationMode {
@@ -49,51 +47,43 @@ fn isolation(number: u64) -> IsolationType {
     }
 }
 
-fn select<'a>(given: First, map: &'a [u64], starts: &'a [u64], ends: &'a [u64]) -> Vtl2Ram {
-    select_from_array(
-        mode(given.w0),
-        isolation(given.w1),
-        optional(given.w2, given.w3),
-        range(given.w4, given.w5),
-        map_of(map),
-        map.len() / 4,
-        starts,
-        ends,
+fn select(words: &[u64], map: &[u64], imports: &[MemoryRange]) -> Result<Vtl2Ram, Refusal> {
+    let [to_mode, to_isolation, has_size, size, start, end] = words_at::<6>(words, 0);
+    let entries = map_of(map);
+    let count = (map.len() / 4).min(MAP_ROOM);
+    select_vtl2_ram(
+        mode(to_mode),
+        isolation(to_isolation),
+        optional(has_size, size),
+        range(start, end),
+        &entries[..count],
+        imports,
     )
 }
 
-fn ram_row(ram: Vtl2Ram, i: usize) -> Row {
-    if i < MAX_VTL2_RAM_RANGES {
-        return three(ram.starts[i], ram.ends[i], wide(ram.nodes[i]));
-    }
-    unknown()
-}
-
-// The places of the arrays, start, end and node of each.
-fn same_ram(out: Stdout, stored: &[u64], at: usize, ram: Vtl2Ram) -> usize {
+// The places of the chosen entries, start, end and node of each. Those that no entry stands in are 0.
+fn same_entries(stored: Stored, at: usize, entries: &[TaggedRange]) -> Option<usize> {
     let mut next = at;
     for i in 0..MAX_VTL2_RAM_RANGES {
-        next = same_row(out, stored, next, ram_row(ram, i));
+        let entry = entries.get(i).copied().unwrap_or_default();
+        let range = entry.range;
+        next = stored.same_words(next, &[range.start, range.end, u64::from(entry.tag)])?;
     }
-    end_of(stored, next)
+    stored.end(next)
 }
 
-fn selection_row(selection: Selection) -> Row {
-    match selection {
-        Selection::Refused(number) => one(number as u64),
-        Selection::Chosen(count, bytes) => three(0, count as u64, bytes),
+// The refusal's number; or 0, the count and the bytes. Then the entries.
+pub(crate) fn selected(stored: Stored, case: &Case, words: &[u64]) -> Option<usize> {
+    let imports = ranges_of(case.list(words, 2), case.list(words, 3));
+    match select(words, case.list(words, 1), imports.as_slice()) {
+        Err(refusal) => {
+            let at = stored.same_word(0, u64::from(refusal.number()))?;
+            same_entries(stored, at, &[])
+        }
+        Ok(ram) => {
+            let entries = ram.entries.as_slice();
+            let at = stored.same_words(0, &[0, entries.len() as u64, ram.bytes])?;
+            same_entries(stored, at, entries)
+        }
     }
-}
-
-// The refusal's number; or 0, the count and the bytes. Then the arrays.
-pub(crate) fn selected<'a>(out: Stdout, case: Case, words: &'a [u64], stored: &'a [u64]) -> usize {
-    let ram = select(
-        first_words(words),
-        case.list(words, 1),
-        case.list(words, 2),
-        case.list(words, 3),
-    );
-    let selection = ram.selection;
-    let at = same_row(out, stored, 0, selection_row(selection));
-    same_ram(out, stored, at, ram)
 }

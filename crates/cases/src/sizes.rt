@@ -1,25 +1,16 @@
 // The operations of `dma_hint`.
 use super::kinds::optional;
-use super::words::{First, Row, one, same_word, two, word_at};
-use dma_hint::PoolSize;
+use super::words::{Stored, words_at};
 use host_params::{Vtl2GpaPoolConfig, Vtl2GpaPoolLookupTable};
-use std::io::Stdout;
 
 // The hint of each processor count with the memory behind it.
-pub(crate) fn hints<'a>(
-    out: Stdout,
-    table: Vtl2GpaPoolLookupTable,
-    words: &'a [u64],
-    stored: &'a [u64],
-) -> usize {
+pub(crate) fn hints(stored: Stored, table: Vtl2GpaPoolLookupTable, words: &[u64]) -> Option<usize> {
     let mut at = 0;
-    for i in 0..words.len() / 2 {
-        let vp_count = word_at(words, 2 * i);
-        let mem_size = word_at(words, 2 * i + 1);
-        let pages = dma_hint::vtl2_calculate_dma_hint(table, vp_count, mem_size);
-        at = same_word(out, stored, at, pages);
+    for pair in words.chunks_exact(2) {
+        let pages = dma_hint::vtl2_calculate_dma_hint(table, pair[0], pair[1]);
+        at = stored.same_word(at, pages)?;
     }
-    at
+    Some(at)
 }
 
 fn config_of(kind: u64, pages: u64) -> Vtl2GpaPoolConfig {
@@ -32,11 +23,19 @@ fn config_of(kind: u64, pages: u64) -> Vtl2GpaPoolConfig {
 }
 
 // 0, or 1 and the pages.
-pub(crate) fn pool_size(given: First) -> Row {
-    let config = config_of(given.w0, given.w1);
-    let host_pages = optional(given.w2, given.w3);
-    match dma_hint::pick_private_pool_size(config, host_pages, given.w4, given.w5) {
-        PoolSize::None => one(0),
-        PoolSize::Pages(pages) => two(1, pages),
+pub(crate) fn pool_size(stored: Stored, words: &[u64]) -> Option<usize> {
+    let [
+        kind,
+        pages,
+        has_host_pages,
+        host_pages,
+        processors,
+        ram_bytes,
+    ] = words_at::<6>(words, 0);
+    let config = config_of(kind, pages);
+    let host_pages = optional(has_host_pages, host_pages);
+    match dma_hint::pick_private_pool_size(config, host_pages, processors, ram_bytes) {
+        None => stored.same_word(0, 0),
+        Some(pages) => stored.same_words(0, &[1, pages]),
     }
 }

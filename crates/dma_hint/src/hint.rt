@@ -6,7 +6,7 @@ ghost use Rattle.dma_hint.specs.Hint.{dma_hint_of, table_pages};
 use crate::lookup::{Lookup, find_rows};
 use crate::pages::extrapolate;
 use crate::ratio::collect_ratios;
-use crate::table::{Row, debug_rows, release_rows};
+use crate::table::{Row, table_rows};
 use host_params::Vtl2GpaPoolLookupTable;
 
 const ONE_MB: u64 = 1_048_576;
@@ -18,14 +18,14 @@ const MAX_DMA_HINT_MEM_SIZE: u64 = 0xFFFFFFFF00000;
 
 // A table's numbers have 16 bits; the guest's are compared by their lowest 16.
 fn table_pages(rows: &[Row], vp_count: u64, mem_size_mb: u64) -> u64
-    requires fact_1 { T (ascends rows.now) }
-    requires fact_2 { T (hints_given rows.now) }
-    requires fact_3 { mem_size_mb < 2 ^ 32 }
+    requires ascending { T (ascends rows.now) }
+    requires hints { T (hints_given rows.now) }
+    requires memory { mem_size_mb < 2 ^ 32 }
     ensures { result ≡ table_pages rows.now vp_count mem_size_mb }
 {
     let found = find_rows(rows, vp_count % 65_536, mem_size_mb % 65_536);
     match found {
-        Lookup::Exact(dma_hint_mb) => dma_hint_mb as u64 * PAGES_PER_MB,
+        Lookup::Exact(dma_hint_mb) => u64::from(dma_hint_mb) * PAGES_PER_MB,
         Lookup::Nearest(first, end) => extrapolate(mem_size_mb, collect_ratios(&rows[first..end])),
     }
 }
@@ -34,15 +34,8 @@ fn table_pages(rows: &[Row], vp_count: u64, mem_size_mb: u64) -> u64
 pub fn vtl2_calculate_dma_hint(table: Vtl2GpaPoolLookupTable, vp_count: u64, mem_size: u64) -> u64
     ensures { result ≡ dma_hint_of table vp_count mem_size }
 {
-    if mem_size == 0 {
+    if mem_size == 0 || mem_size >= MAX_DMA_HINT_MEM_SIZE {
         return 0;
     }
-    if mem_size >= MAX_DMA_HINT_MEM_SIZE {
-        return 0;
-    }
-    let mem_size_mb = mem_size / ONE_MB;
-    match table {
-        Vtl2GpaPoolLookupTable::Release => table_pages(&release_rows(), vp_count, mem_size_mb),
-        Vtl2GpaPoolLookupTable::Debug => table_pages(&debug_rows(), vp_count, mem_size_mb),
-    }
+    table_pages(table_rows(table), vp_count, mem_size / ONE_MB)
 }

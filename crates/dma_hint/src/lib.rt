@@ -10,4 +10,4 @@ mod ratio;
 mod table;
 
 pub use hint::vtl2_calculate_dma_hint;
-pub use pool::{PoolSize, pick_private_pool_size};
+pub use pool::pick_private_pool_size;

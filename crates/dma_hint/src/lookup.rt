@@ -3,7 +3,7 @@ ghost use Rattle.std.specs.Prelude.{◌≡◌, T};
 ghost use Rattle.dma_hint.specs.Table.{ascends};
 ghost use Rattle.dma_hint.specs.Lookup.{lookup, found_within, Within};
 
-use crate::table::{DMA_HINT_MB, Row, VP_COUNT, VTL2_MEMORY_MB, column};
+use crate::table::{DMA_HINT_MB, Row, VP_COUNT, VTL2_MEMORY_MB};
 
 #[derive(Clone, Copy)]
 pub(crate) enum Lookup {
@@ -17,20 +17,18 @@ pub(crate) enum Lookup {
 // and the search ends there. A row of a lower count, as most are, is told by one comparison.
 pub(crate) fn find_rows(rows: &[Row], vp_count: u64, mem_size_mb: u64) -> Lookup
     requires { T (ascends rows.now) }
-    ensures fact_1 { found_within rows.now result ≡ lookup vp_count mem_size_mb rows.now }
-    ensures fact_2 { Within rows.now result }
+    ensures what_is_found { found_within rows.now result ≡ lookup vp_count mem_size_mb rows.now }
+    ensures places_within { Within rows.now result }
 {
     let mut nearest = 0;
     let mut first = 0;
-    let mut i = 0;
-    while i < rows.len() {
-        let row = rows[i];
-        let row_count = column(row, VP_COUNT);
+    for (i, row) in rows.iter().enumerate() {
+        let row_count = u64::from(row[VP_COUNT]);
         if row_count >= vp_count {
             if row_count > vp_count {
                 return Lookup::Nearest(first, i);
             }
-            if column(row, VTL2_MEMORY_MB) == mem_size_mb {
+            if u64::from(row[VTL2_MEMORY_MB]) == mem_size_mb {
                 return Lookup::Exact(row[DMA_HINT_MB]);
             }
         }
@@ -38,7 +36,6 @@ pub(crate) fn find_rows(rows: &[Row], vp_count: u64, mem_size_mb: u64) -> Lookup
             nearest = row_count;
             first = i;
         }
-        i += 1;
     }
-    Lookup::Nearest(first, i)
+    Lookup::Nearest(first, rows.len())
 }

@@ -20,10 +20,10 @@ fn round_up_to_2mb(pages_4k: u64) -> u64
 
 // The pages for this memory, by the mean of the two ratios.
 pub(crate) fn extrapolate(mem_size_mb: u64, ratios: Ratios) -> u64
-    requires fact_1 { mem_size_mb < 2 ^ 32 }
-    requires fact_2 { 1 < ratios.min_ratio_1000th + ratios.max_ratio_1000th }
+    requires memory { mem_size_mb < 2 ^ 32 }
+    requires mean_given { 1 < ratios.min_ratio_1000th + ratios.max_ratio_1000th }
     ensures { result ≡ ratio_pages mem_size_mb ratios.min_ratio_1000th ratios.max_ratio_1000th }
 {
-    let sum = ratios.min_ratio_1000th as u64 + ratios.max_ratio_1000th as u64;
+    let sum = u64::from(ratios.min_ratio_1000th) + u64::from(ratios.max_ratio_1000th);
     round_up_to_2mb(mem_size_mb * PAGES_PER_MB_1000TH / (sum / 2))
 }

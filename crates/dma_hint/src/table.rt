@@ -1,8 +1,11 @@
 // The two lookup tables of the private pool's size. Both ascend by processor count.
-ghost use Rattle.std.specs.Prelude.{◌≡◌, ◌<◌, get_or};
-ghost use Rattle.dma_hint.specs.Table.{release, debug};
+ghost use Rattle.std.specs.Prelude.{◌≡◌};
+ghost use Rattle.dma_hint.specs.Table.{rows_of};
 
-// A guest's processors, the MiB of its VTL2's memory, and the hint in MiB.
+use host_params::Vtl2GpaPoolLookupTable;
+
+// A guest's processors, the MiB of its VTL2's memory, and the hint in MiB. A row is a list of numbers in the
+// definitions, so an array here.
 pub(crate) type Row = [u16; 3];
 
 // The columns of a row.
@@ -12,16 +15,8 @@ pub(crate) const VTL2_MEMORY_MB: usize = 1;
 
 pub(crate) const DMA_HINT_MB: usize = 2;
 
-// A column of a row, as wide as the guest's numbers.
-pub(crate) fn column(row: Row, k: usize) -> u64
-    requires { k < 3 }
-    ensures { result ≡ get_or row k 0 }
-{
-    row[k] as u64
-}
-
 // Guests in use.
-const LOOKUP_TABLE_RELEASE: [Row; 39] = [
+static LOOKUP_TABLE_RELEASE: [Row; 39] = [
     [2, 96, 2],
     [2, 98, 4],
     [2, 100, 4],
@@ -64,7 +59,7 @@ const LOOKUP_TABLE_RELEASE: [Row; 39] = [
 ];
 
 // Guests of developers and tests, which have more memory.
-const LOOKUP_TABLE_DEBUG: [Row; 6] = [
+static LOOKUP_TABLE_DEBUG: [Row; 6] = [
     [4, 496, 4],
     [16, 512, 16],
     [32, 1024, 32],
@@ -73,14 +68,12 @@ const LOOKUP_TABLE_DEBUG: [Row; 6] = [
     [128, 1024, 128],
 ];
 
-pub(crate) fn release_rows() -> [Row; 39]
-    ensures { result ≡ release }
+// The tables are lent where they stand.
+pub(crate) fn table_rows(table: Vtl2GpaPoolLookupTable) -> &'static [Row]
+    ensures { result.now ≡ rows_of table }
 {
-    LOOKUP_TABLE_RELEASE
-}
-
-pub(crate) fn debug_rows() -> [Row; 6]
-    ensures { result ≡ debug }
-{
-    LOOKUP_TABLE_DEBUG
+    match table {
+        Vtl2GpaPoolLookupTable::Release => &LOOKUP_TABLE_RELEASE,
+        Vtl2GpaPoolLookupTable::Debug => &LOOKUP_TABLE_DEBUG,
+    }
 }

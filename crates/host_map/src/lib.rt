@@ -1,11 +1,8 @@
-// The host's map as the caller lends it: a list of entries, copied once, with rows 4 and 5 looked at on
-// the way; or lists of its fields.
+// The host's map as the caller lends it, a list of entries, and rows 4 and 5 of a list of ranges.
 #![tactic(auto)]
 
 mod entries;
 mod rows;
 
-pub use entries::{
-    Entries, MAP_ROOM, MAX_PARTITION_RAM_RANGES, copy_entries, is_protectable, no_entry, put_entry,
-};
+pub use entries::{MAP_ROOM, MAX_PARTITION_RAM_RANGES, is_protectable, no_entry};
 pub use rows::{RangeCheck, check_ranges};

@@ -1,9 +1,8 @@
 // Rows 4 and 5 of a list of ranges, looked at range by range.
-ghost use Rattle.std.specs.Prelude.{◌≡◌};
-ghost use Rattle.memory_range.specs.List.{ranges_of};
+ghost use Rattle.std.specs.Prelude.{◌≡◌, map};
 ghost use Rattle.host_map.specs.Rows.{check_start, checked_with, checked_all};
 
-use memory_range::{MemoryRange, range_count};
+use memory_range::{HasRange, MemoryRange};
 
 #[derive(Clone, Copy)]
 pub struct RangeCheck {
@@ -36,19 +35,13 @@ impl RangeCheck {
     }
 }
 
-// Of all ranges of two lists.
-pub fn check_ranges<'a>(starts: &'a [u64], ends: &'a [u64]) -> RangeCheck
-    ensures { result ≡ checked_all check_start (ranges_of starts.now ends.now) }
+// Of all ranges of a list.
+pub fn check_ranges<R: HasRange + Copy>(list: &[R]) -> RangeCheck
+    ensures { result ≡ checked_all check_start (map R.range_in list.now) }
 {
-    let count = range_count(starts, ends);
     let mut check = RangeCheck::start();
-    let mut i = 0;
-    while i < count {
-        check = check.with(MemoryRange {
-            start: starts[i],
-            end: ends[i],
-        });
-        i += 1;
+    for item in list {
+        check = check.with(item.range());
     }
     check
 }

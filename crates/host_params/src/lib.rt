@@ -2,33 +2,19 @@
 // the command line say of a guest, what a request for memory asks, and what memory is for.
 #![tactic(auto)]
 
-use memory_range::MemoryRange;
+use memory_range::{HasRange, MemoryRange};
 
 // The RAM of VTL2 has at most so many entries.
 pub const MAX_VTL2_RAM_RANGES: usize = 64;
 
-// A number, or none: the Rust's `Option<u64>`.
-#[derive(Clone, Copy)]
-pub enum OptionU64 {
-    Some(u64),
-    None,
-}
-
-// A node, or none: the Rust's `Option<u32>`.
-#[derive(Clone, Copy)]
-pub enum OptionU32 {
-    Some(u32),
-    None,
-}
-
 // Who chooses the RAM of VTL2: the host, or the boot shim from the host's map.
-#[derive(Clone, Copy)]
+#[derive(Clone, Copy, PartialEq, Eq)]
 pub enum MemoryAllocationMode {
     Host,
     Vtl2,
 }
 
-#[derive(Clone, Copy)]
+#[derive(Clone, Copy, PartialEq, Eq)]
 pub enum IsolationType {
     None,
     Vbs,
@@ -37,7 +23,7 @@ pub enum IsolationType {
     Cca,
 }
 
-#[derive(Clone, Copy)]
+#[derive(Clone, Copy, PartialEq, Eq)]
 pub enum MemoryMapEntryType {
     // Memory that the host keeps for VTL2.
     Vtl2Protectable,
@@ -53,14 +39,26 @@ pub struct MemoryEntry {
     pub mem_type: MemoryMapEntryType,
 }
 
+impl HasRange for MemoryEntry {
+    ghost use Rattle.std.proofs.Common.{arith};
+
+    ghost range_in = { λ e. e.range };
+
+    ghost sized = { omega arith };
+
+    fn range(self) -> MemoryRange {
+        self.range
+    }
+}
+
 // Which table sizes the private pool.
-#[derive(Clone, Copy)]
+#[derive(Clone, Copy, PartialEq, Eq)]
 pub enum Vtl2GpaPoolLookupTable {
     Release,
     Debug,
 }
 
-#[derive(Clone, Copy)]
+#[derive(Clone, Copy, PartialEq, Eq)]
 pub enum Vtl2GpaPoolConfig {
     // Sized by a lookup table, unless the host gives a size.
     Heuristics(Vtl2GpaPoolLookupTable),
@@ -70,13 +68,13 @@ pub enum Vtl2GpaPoolConfig {
     Pages(u64),
 }
 
-#[derive(Clone, Copy)]
+#[derive(Clone, Copy, PartialEq, Eq)]
 pub enum AllocationPolicy {
     LowMemory,
     HighMemory,
 }
 
-#[derive(Clone, Copy)]
+#[derive(Clone, Copy, PartialEq, Eq)]
 pub enum AllocationType {
     GpaPool,
     SidecarNode,
@@ -84,7 +82,7 @@ pub enum AllocationType {
 }
 
 // What a range of the RAM is for, as it is reported. Free and used RAM is `Ram`.
-#[derive(Clone, Copy)]
+#[derive(Clone, Copy, PartialEq, Eq)]
 pub enum MemoryVtlType {
     Ram,
     Config,

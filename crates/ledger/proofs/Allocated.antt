@@ -1,12 +1,9 @@
 -- What is handed out is what the rule gives of the free ranges.
-use Rattle.std.specs.Prelude.{ℕ, List}
+use Rattle.std.specs.Prelude.{ℕ, List, Option, Some}
 use Rattle.std.proofs.Math.Path.{◌≡◌}
 use Rattle.std.proofs.Common.{ap}
-use Rattle.std.proofs.Math.Option.{some}
 use Rattle.host_params.specs.declared.AllocationPolicy.{AllocationPolicy}
 use Rattle.host_params.specs.declared.AllocationType.{AllocationType}
-use Rattle.host_params.specs.declared.OptionU32.{OptionU32}
-use Rattle.host_params.specs.declared.OptionU64.{OptionU64}
 use Rattle.address_space.specs.declared.request.AllocatedRange.{AllocatedRange}
 use Rattle.address_space.specs.declared.table.AddressRange.{AddressRange}
 use Rattle.address_space.specs.Request.{handed, allocated}
@@ -16,10 +13,10 @@ use Rattle.ledger.specs.Claim.{free_of}
 use Rattle.ledger.specs.Laws.Free.{free_in_order, first-free}
 use Rattle.ledger.specs.Laws.Allocated.{allocated_from}
 
-module _ (asked : OptionU32) (len : ℕ) (type : AllocationType) (policy : AllocationPolicy) (alignment : OptionU64) (es : List AddressRange) where
+module _ (asked : Option ℕ) (len : ℕ) (type : AllocationType) (policy : AllocationPolicy) (alignment : Option ℕ) (es : List AddressRange) where
   -- the rule gives the same of the free ranges
   pub allocated-given : (x : AllocatedRange) (es' : List AddressRange) → allocated asked len type policy alignment es ≡ handed x es'
-      → given_of asked len policy alignment (free_of es) ≡ some x
+      → given_of asked len policy alignment (free_of es) ≡ Some x
   allocated-given x es' h =
       let w = allocated_from asked len type policy alignment es x es' h in
-      rw (← free_in_order policy es, first-free asked len alignment (in_order_of policy es), w.finds) (ap some w.gives)
+      rw (← free_in_order policy es, first-free asked len alignment (in_order_of policy es), w.finds) (ap Some w.gives)

@@ -1,8 +1,7 @@
 -- The placement of a pool, by the ledger: what each of its searches shows, and what is handed out.
-use Rattle.std.specs.Prelude.{ℕ, ◌*◌, ◌<◌, ◌≡◌, Bool, cond, not, List, [], ◌∷◌, ltb, eqb, length}
+use Rattle.std.specs.Prelude.{ℕ, ◌*◌, ◌<◌, ◌≡◌, Bool, cond, not, List, [], ◌∷◌, ltb, eqb, length, Some, None}
 use Rattle.std.proofs.Math.Path.{refl}
 use Rattle.std.proofs.Math.Bool.{true, false, and-eq-true_iff}
-use Rattle.std.proofs.Math.Option.{some}
 use Rattle.std.proofs.Common.{arith}
 use borrow.Author.Tests.{leb-true, leb-false, ltb-false, eqb-false, not-true}
 use Rattle.std.proofs.Math.Dec.{leb}
@@ -14,8 +13,6 @@ use Rattle.memory_range.specs.List.{ranges_in, tags_of}
 use Rattle.memory_range.specs.Valid.{page_size}
 use Rattle.host_params.specs.declared.AllocationPolicy.TheVariants.{HighMemory}
 use Rattle.host_params.specs.declared.AllocationType.TheVariants.{GpaPool}
-use Rattle.host_params.specs.declared.OptionU32.TheVariants as node
-use Rattle.host_params.specs.declared.OptionU64.TheVariants as number
 use Rattle.address_space.specs.declared.request.AllocatedRange.{AllocatedRange}
 use Rattle.address_space.specs.declared.table.AddressRange.{AddressRange}
 use Rattle.address_space.specs.declared.usage.AddressUsage.{AddressUsage}
@@ -47,11 +44,11 @@ module _ (b : AddressSpaceManagerBuilder) (ram : List TaggedRange) (configs pool
 
   -- the search for a piece
   abbrev PieceCase : PoolPiece → List AddressRange → Ledger → Outcome → Type 0
-  PieceCase p es l o = SearchCase b ram configs pools (node.Some p.node) (p.pages * page_size) GpaPool HighMemory number.None es l o
+  PieceCase p es l o = SearchCase b ram configs pools (Some p.node) (p.pages * page_size) GpaPool HighMemory None es l o
 
   piece_case : (p : PoolPiece) (es : List AddressRange) (l : Ledger) → Kept b ram configs pools es l → 0 < p.pages → PieceCase p es l (piece_on p es)
   piece_case p es l k some-pages =
-      search_case b ram configs pools (node.Some p.node) (p.pages * page_size) GpaPool HighMemory number.None es l k (omega arith) (omega arith) refl tt
+      search_case b ram configs pools (Some p.node) (p.pages * page_size) GpaPool HighMemory None es l k (omega arith) (omega arith) refl tt
 
   -- what the pieces show and hand out
   abbrev Pieces : List PoolPiece → List AddressRange → Ledger → Placement → Type 0
@@ -62,7 +59,7 @@ module _ (b : AddressSpaceManagerBuilder) (ram : List TaggedRange) (configs pool
   pieces_hold [] h es l k = (refl, given-none b ram configs pools pool_usage es l k)
   pieces_hold (p ∷ ps) h es l k = go (piece_on p es) (piece_case p es l k h.0) (pieces_hold ps h.1)
     where
-      more : (x : AllocatedRange) (es' : List AddressRange) → piece_fits p l.free ≡ true → piece_given p l.free ≡ some x
+      more : (x : AllocatedRange) (es' : List AddressRange) → piece_fits p l.free ≡ true → piece_given p l.free ≡ Some x
           → Given b ram configs pools pool_usage (x ∷ []) es es' l
           → (o : Placement) → Pieces ps es' (cut_one pool_usage x l) o → Pieces (p ∷ ps) es l (in_front x o)
       more x es' f g one (placement.refused n) rest = (PieceSearched.met x (refused n) f g rest.0 refl, tt)

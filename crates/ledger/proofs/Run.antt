@@ -1,9 +1,10 @@
 -- The claim, proved of the planner that the definitions are: for every accepted build and every list of calls.
-use Rattle.std.specs.Prelude.{ℕ, ◌<◌, ◌≡◌, refl, Bool, true, ◌||◌, List, [], ◌∷◌, length, drop}
+use Rattle.std.specs.Prelude.{ℕ, ◌<◌, ◌≡◌, refl, Bool, true, ◌||◌, List, [], ◌∷◌, length, drop, Option, Some, None}
 use Rattle.std.proofs.Common.{ap, sym, ◌∙◌, true≢false, arith}
 use Rattle.std.proofs.Math.Bool.{or-false, or-true}
-use Rattle.std.proofs.Math.Option.{Option, none, some, some-injective, none-ne-some}
 use Rattle.std.proofs.Math.Seq.{take-append_seam}
+use Rattle.std.proofs.lemmas.Option.{same_Some}
+use Rattle.refusal.specs.declared.Refusal.{Refusal}
 use Rattle.refusal.specs.Number.{no_fit, table_full}
 use Rattle.memory_range.specs.declared.range.MemoryRange.{MemoryRange}
 use Rattle.memory_range.specs.declared.range.TaggedRange.{TaggedRange}
@@ -49,7 +50,7 @@ module _ (b : AddressSpaceManagerBuilder) (ram : List TaggedRange) (configs pool
 
   module _ (c : Call) (m : AddressSpaceManager) (l : Ledger) (k : Kept b ram configs pools (entries_of m) l) where
     -- a refusal
-    held_refused : (n : ℕ) → result_on c (entries_of m) ≡ placement.refused n → Searched ram c l.free (answer.refused n)
+    held_refused : (n : Refusal) → result_on c (entries_of m) ≡ placement.refused n → Searched ram c l.free (answer.refused n)
         → Held c m l (record { answer = answer.refused n; state = m })
     held_refused n e s = (
       record {
@@ -75,7 +76,7 @@ module _ (b : AddressSpaceManagerBuilder) (ram : List TaggedRange) (configs pool
         table = e ∙ sym (ap (answer.result_entries (entries_of m)) a);
         were-free = g.were-free;
         others-kept = rw e g.others;
-        refused-kept = λ n h. absurd (let z : ◌≡◌ {A = ℕ} 0 1 = cc in omega arith);
+        refused-kept = λ n h. cc;
         flag = f;
         searches = s;
       },
@@ -100,21 +101,21 @@ module _ (b : AddressSpaceManagerBuilder) (ram : List TaggedRange) (configs pool
     searched-holds o e (case.full f h) =
         rw h
         (held_refused (request r) m l k table_full (ap answer.request_placed (e ∙ h))
-        (otherwise (answer.refused table_full) (λ w. let z : table_full ≡ no_fit = cc in omega arith) f))
+        (otherwise (answer.refused table_full) (λ w. cc) f))
     searched-holds o e (case.met x es' f g one h) =
         rw h
         (held-given (request r) m l k (x ∷ []) (table_with m es' (pool_of m || is_pool r.type)) es' (entries_with m es' (pool_of m || is_pool r.type)) refl
         (ap answer.request_placed (e ∙ h)) one
-        (otherwise (gave (x ∷ [])) (λ w. let z : ◌≡◌ {A = ℕ} 0 1 = cc in omega arith) f))
+        (otherwise (gave (x ∷ [])) (λ w. cc) f))
 
     request-holds : Held (request r) m l (allocation_of (allocation_as m r.type asked))
     request-holds = go (rows_refusal r.len r.alignment) refl
       where
-        go : (u : Option ℕ) → rows_refusal r.len r.alignment ≡ u → Held (request r) m l (allocation_of (allocation_as m r.type asked))
-        go (some n) rows =
+        go : (u : Option Refusal) → rows_refusal r.len r.alignment ≡ u → Held (request r) m l (allocation_of (allocation_as m r.type asked))
+        go (Some n) rows =
             let e = requested_refused r.asked r.len r.type r.policy r.alignment (entries_of m) n (rw rows) in
-            rw e (held_refused (request r) m l k n (ap answer.request_placed e) (λ passed. absurd (none-ne-some n (sym passed ∙ rows))))
-        go none rows =
+            rw e (held_refused (request r) m l k n (ap answer.request_placed e) (λ passed. cc))
+        go None rows =
             let rounded = round_up page_size r.len in
             let e = requested_rounded r.asked r.len r.type r.policy r.alignment (entries_of m) rounded (rw rows) in
             let passed = rows-passed r.asked r.len r.type r.policy r.alignment (entries_of m) rows in
@@ -161,14 +162,14 @@ module _ (b : AddressSpaceManagerBuilder) (ram : List TaggedRange) (configs pool
     ordered : Ordered 0 (ranges_in ram)
     kept : Kept b ram configs pools (entries_of s) (first_ledger planner b ram configs pools)
 
-  begun : (s : AddressSpaceManager) → planner.build b ram configs pools ≡ some s → Begun s
+  begun : (s : AddressSpaceManager) → planner.build b ram configs pools ≡ Some s → Begun s
   begun s e = go (build b 0 ram configs pools) refl e
     where
-      go : (o : Build) → build b 0 ram configs pools ≡ o → init_of (init_as empty_table (has_pool pools) o) ≡ some s → Begun s
-      go (refused n) p q = absurd (none-ne-some s q)
+      go : (o : Build) → build b 0 ram configs pools ≡ o → init_of (init_as empty_table (has_pool pools) o) ≡ Some s → Begun s
+      go (refused n) p q = cc
       go (built es) p q =
           let m = table_with empty_table es (has_pool pools) in
-          let is_m = sym (some-injective m s q) in
+          let is_m = sym (same_Some m s q) in
           let same : entries_of s ≡ es = ap entries_of is_m ∙ entries_with empty_table es (has_pool pools) in
           let claimed = build_claimed b 0 ram configs pools es p in
           record {
@@ -178,7 +179,7 @@ module _ (b : AddressSpaceManagerBuilder) (ram : List TaggedRange) (configs pool
             kept = rw same (record { sound = claimed.sound; free = opened-free b 0 ram configs pools es p; usages = claimed.says });
           }
 
-  pub claim-holds : (s : AddressSpaceManager) → planner.build b ram configs pools ≡ some s → (calls : List Call) → Claim planner b ram configs pools s calls
+  pub claim-holds : (s : AddressSpaceManager) → planner.build b ram configs pools ≡ Some s → (calls : List Call) → Claim planner b ram configs pools s calls
   claim-holds s e calls =
       let first = begun s e in
       let run = calls_hold first.ordered calls s (first_ledger planner b ram configs pools) first.kept in

@@ -1,15 +1,12 @@
 -- How a search comes out, by the ledger's free ranges: no-fit exactly where none of them fits.
-use Rattle.std.specs.Prelude.{ℕ, ◌%◌, ◌<◌, ◌≡◌, refl, Bool, true, false, List, [], ◌∷◌}
-use Rattle.std.proofs.Common.{ap, sym, ◌∙◌, ⊎_elim, arith}
-use Rattle.std.proofs.Math.Option.{some}
+use Rattle.std.specs.Prelude.{ℕ, ◌%◌, ◌<◌, ◌≡◌, refl, Bool, true, false, List, [], ◌∷◌, Option, Some}
+use Rattle.std.proofs.Common.{ap, sym, ◌∙◌, ⊎_elim}
 use Rattle.refusal.specs.Number.{no_fit, table_full}
 use Rattle.memory_range.specs.declared.range.MemoryRange.{MemoryRange}
 use Rattle.memory_range.specs.declared.range.TaggedRange.{TaggedRange}
 use Rattle.memory_range.specs.Valid.{page_size}
 use Rattle.host_params.specs.declared.AllocationPolicy.{AllocationPolicy}
 use Rattle.host_params.specs.declared.AllocationType.{AllocationType}
-use Rattle.host_params.specs.declared.OptionU32.{OptionU32}
-use Rattle.host_params.specs.declared.OptionU64.{OptionU64}
 use Rattle.address_space.specs.declared.request.AllocatedRange.{AllocatedRange}
 use Rattle.address_space.specs.declared.table.AddressRange.{AddressRange}
 use Rattle.address_space.specs.Request.{Outcome, refused, handed, alignment_good, allocated}
@@ -26,13 +23,13 @@ use Rattle.ledger.specs.Laws.Free.{fits-free}
 use Rattle.ledger.specs.Laws.Kept.{Kept, Given, given-one}
 
 module _ (b : AddressSpaceManagerBuilder) (ram : List TaggedRange) (configs pools : List MemoryRange)
-    (asked : OptionU32) (len : ℕ) (type : AllocationType) (policy : AllocationPolicy) (alignment : OptionU64) (es : List AddressRange) (l : Ledger) where
+    (asked : Option ℕ) (len : ℕ) (type : AllocationType) (policy : AllocationPolicy) (alignment : Option ℕ) (es : List AddressRange) (l : Ledger) where
   -- the three ways in which a search comes out
   pub data SearchCase (o : Outcome) : Type 0 where
     no-fit : some_entry_fits asked len alignment l.free ≡ false → o ≡ refused no_fit → SearchCase o
     full : some_entry_fits asked len alignment l.free ≡ true → o ≡ refused table_full → SearchCase o
     met : (x : AllocatedRange) (es' : List AddressRange) → some_entry_fits asked len alignment l.free ≡ true
-        → given_of asked len policy alignment l.free ≡ some x → Given b ram configs pools (usage_for type) (x ∷ []) es es' l → o ≡ handed x es'
+        → given_of asked len policy alignment l.free ≡ Some x → Given b ram configs pools (usage_for type) (x ∷ []) es es' l → o ≡ handed x es'
         → SearchCase o
 
   module _ (k : Kept b ram configs pools es l) (pages : len % page_size ≡ 0) (some_bytes : 0 < len) (good : alignment_good alignment ≡ true)
@@ -50,10 +47,10 @@ module _ (b : AddressSpaceManagerBuilder) (ram : List TaggedRange) (configs pool
         go (refused n) e false t = no-fit t (sym e ∙ none-fits t)
         go (refused n) e true t =
             ⊎_elim
-            (λ z. absurd (let w = turned_away (e ∙ ap refused z) in let c : ◌≡◌ {A = ℕ} 0 1 = cc in omega arith))
+            (λ z. let w = turned_away (e ∙ ap refused z) in cc)
             (λ z. full t (ap refused z))
             (allocated_refusals asked len type policy alignment es n e)
-        go (handed x es') e false t = absurd (let w = none-fits t in let c : ◌≡◌ {A = ℕ} 0 1 = cc in omega arith)
+        go (handed x es') e false t = let w = none-fits t in cc
         go (handed x es') e true t =
             let both = allocated-handed asked len type policy alignment es ram x es' k.sound pages some_bytes good bits e in
             met x es' t (rw (← k.free) (allocated-given asked len type policy alignment es x es' e))

@@ -1,31 +1,26 @@
 -- Calls on a table and their answers (docs/SPEC.md, section 27).
-use Rattle.std.specs.Prelude.{ℕ, Bool, List, [], ◌∷◌, take}
+use Rattle.std.specs.Prelude.{ℕ, Bool, List, [], ◌∷◌, take, Option, Result, Ok, Err}
+use Rattle.refusal.specs.declared.Refusal.{Refusal}
 use Rattle.host_params.specs.declared.AllocationPolicy.{AllocationPolicy}
 use Rattle.host_params.specs.declared.AllocationType.{AllocationType}
 use Rattle.host_params.specs.declared.AllocationType.TheVariants.{GpaPool}
-use Rattle.host_params.specs.declared.OptionU32.{OptionU32}
-use Rattle.host_params.specs.declared.OptionU64.{OptionU64}
-use Rattle.address_space.specs.declared.request.Allocated.{Allocated}
-use Rattle.address_space.specs.declared.request.Allocated.TheVariants as allocated
 use Rattle.address_space.specs.declared.request.AllocatedRange.{AllocatedRange}
 use Rattle.address_space.specs.declared.table.AddressRange.{AddressRange}
 use Rattle.address_space.specs.declared.usage.AddressUsage.{AddressUsage}
 use Rattle.address_space.specs.Request.{Outcome, requested}
 use Rattle.address_space.specs.Request as outcome
 use Rattle.address_space.specs.Usage.{usage_for}
-use Rattle.private_pool.specs.declared.pool.PoolPlaced.{PoolPlaced}
-use Rattle.private_pool.specs.declared.pool.PoolPlaced.TheVariants as pool-answer
 use Rattle.private_pool.specs.Pool.{Placement, pool_placed}
 use Rattle.private_pool.specs.Pool as placement
 use Rattle.memory_claims.specs.Claim.{Of64Bits}
 
 -- a request: a node or none, a length, a kind, a policy, and an alignment or none, which is a number of 64 bits
 pub record Request : Type 0 where
-  pub asked : OptionU32
+  pub asked : Option ℕ
   pub len : ℕ
   pub type : AllocationType
   pub policy : AllocationPolicy
-  pub alignment : OptionU64
+  pub alignment : Option ℕ
   pub bits : Of64Bits alignment
 
 -- a call: a request, or the placement of a pool of so many pages, whose split may be forced
@@ -33,9 +28,9 @@ pub data Call : Type 0 where
   request : Request → Call
   pool : ℕ → Bool → Call
 
--- an answer: a refusal's number, or the ranges handed out, in turn: one for a request, a pool's pieces in the order of their nodes
+-- an answer: a refusal, or the ranges handed out, in turn: one for a request, a pool's pieces in the order of their nodes
 pub data Answer : Type 0 where
-  refused : ℕ → Answer
+  refused : Refusal → Answer
   gave : List AllocatedRange → Answer
 
 -- the ranges that an answer hands out
@@ -73,10 +68,10 @@ abbrev pub entries_on : Call → List AddressRange → List AddressRange
 entries_on c es = result_entries es (result_on c es)
 
 -- the answers of the code's types
-abbrev pub request_answer : Allocated → Answer
-request_answer (allocated.Range x) = gave (x ∷ [])
-request_answer (allocated.Refused n) = refused n
+abbrev pub request_answer : Result AllocatedRange Refusal → Answer
+request_answer (Ok x) = gave (x ∷ [])
+request_answer (Err n) = refused n
 
-abbrev pub pool_answer : PoolPlaced → List AllocatedRange → Answer
-pool_answer (pool-answer.Ranges k) xs = gave (take k xs)
-pool_answer (pool-answer.Refused n) xs = refused n
+abbrev pub pool_answer : Result ℕ Refusal → List AllocatedRange → Answer
+pool_answer (Ok k) xs = gave (take k xs)
+pool_answer (Err n) xs = refused n

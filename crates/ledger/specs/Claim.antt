@@ -1,6 +1,6 @@
 -- The claim about a planner, a build that it accepts and a list of calls: demand 3 (docs/SPEC.md, section 27).
-use Rattle.std.specs.Prelude.{ℕ, ◌<◌, ◌≡◌, Bool, true, false, cond, ◌||◌, List, [], ◌∷◌}
-use Rattle.std.proofs.Math.Option.{some}
+use Rattle.std.specs.Prelude.{ℕ, ◌<◌, ◌≡◌, Bool, true, false, cond, ◌||◌, List, [], ◌∷◌, Option, Some}
+use Rattle.refusal.specs.declared.Refusal.{Refusal}
 use Rattle.memory_range.specs.declared.range.MemoryRange.{MemoryRange}
 use Rattle.memory_range.specs.declared.range.TaggedRange.{TaggedRange}
 use Rattle.memory_range.specs.Bytes.{holders, All}
@@ -10,7 +10,6 @@ use Rattle.host_params.specs.declared.IsolationType.{IsolationType}
 use Rattle.host_params.specs.declared.MemoryAllocationMode.{MemoryAllocationMode}
 use Rattle.host_params.specs.declared.MemoryAllocationMode.TheVariants.{Vtl2}
 use Rattle.host_params.specs.declared.MemoryEntry.{MemoryEntry}
-use Rattle.host_params.specs.declared.OptionU64.{OptionU64}
 use Rattle.boot_ram.specs.Held.{on_node, bytes_of}
 use Rattle.vtl2_ram.specs.Choice.{chosen}
 use Rattle.vtl2_ram.specs.Claim.{share_in, InOrder, BootClaim}
@@ -36,7 +35,7 @@ free_of (e ∷ es) = cond (is_free e.usage) (noded_range e ∷ free_of es) (free
 -- each byte of ranges that are cut in turn lies in a free range of their node at that time
 abbrev pub WereFree : List AllocatedRange → List TaggedRange → Type 0
 WereFree [] free = Unit {0}
-WereFree (x ∷ xs) free = ((a : ℕ) → holds x.range a ≡ true → tag_at free a ≡ some x.vnode) × WereFree xs (cut x.range free)
+WereFree (x ∷ xs) free = ((a : ℕ) → holds x.range a ≡ true → tag_at free a ≡ Some x.vnode) × WereFree xs (cut x.range free)
 
 -- the byte at a lies in one of the ranges
 abbrev pub held_in : List AllocatedRange → ℕ → Bool
@@ -60,7 +59,7 @@ module _ (P : Planner) (ram : List TaggedRange) where
     -- every byte that it does not hand out keeps its node and its usage
     pub others-kept : (a : ℕ) → held_in (ranges_given e.answer) a ≡ false → note_at (P.entries e.left) a ≡ note_at (P.entries e.met) a
     -- a refusal leaves the table as found
-    pub refused-kept : (n : ℕ) → e.answer ≡ refused n → P.entries e.left ≡ P.entries e.met
+    pub refused-kept : (n : Refusal) → e.answer ≡ refused n → P.entries e.left ≡ P.entries e.met
     -- the flag is set where pool memory is handed out, and else as found
     pub flag : P.flag e.left ≡ (P.flag e.met || sets_flag e.call e.answer)
     -- each search is turned away as no-fit exactly where no free range of the ledger, as it stands at that search, meets the fit rule
@@ -89,12 +88,12 @@ module _ (P : Planner) (b : AddressSpaceManagerBuilder) (ram : List TaggedRange)
     -- the free entries are the ledger's free ranges, in order, alike in start, end and node
     pub free-ranges : free_of (last_table calls s) ≡ (last_ledger calls s).free
     -- every byte of the RAM has its node, and is used as the call that last cut it says, else as its build does
-    pub usages : (n a : ℕ) → tag_at ram a ≡ some n → note_at (last_table calls s) a ≡ some (note n (usage_by b configs pools (last_ledger calls s) a))
+    pub usages : (n a : ℕ) → tag_at ram a ≡ Some n → note_at (last_table calls s) a ≡ Some (note n (usage_by b configs pools (last_ledger calls s) a))
     -- of each call
     pub calls_hold : All (CallClaim P ram) (events P calls s first_ledger)
 
 -- of the RAM that is selected from an accepted map: it is the definitions', in order, and in boot mode each node of the map has what is due to it
-pub record SelectionClaim (mode : MemoryAllocationMode) (isolation : IsolationType) (size : OptionU64) (file : MemoryRange) (map : List MemoryEntry)
+pub record SelectionClaim (mode : MemoryAllocationMode) (isolation : IsolationType) (size : Option ℕ) (file : MemoryRange) (map : List MemoryEntry)
     (imports : List MemoryRange) (ram : List TaggedRange) : Type 0 where
   pub same : choice mode isolation size file map imports ≡ chosen ram
   pub in_order : InOrder ram
@@ -103,14 +102,14 @@ pub record SelectionClaim (mode : MemoryAllocationMode) (isolation : IsolationTy
 -- demand 3, whole: of a planner, whatever it is to select from, to build and to be called for
 pub record Demand3 (P : Planner) : Type 0 where
   -- every map that the definitions accept is accepted, and what is claimed of the RAM holds
-  pub selects : (mode : MemoryAllocationMode) (isolation : IsolationType) (size : OptionU64) (file : MemoryRange) (map : List MemoryEntry)
+  pub selects : (mode : MemoryAllocationMode) (isolation : IsolationType) (size : Option ℕ) (file : MemoryRange) (map : List MemoryEntry)
       (imports : List MemoryRange) (ram : List TaggedRange) → choice mode isolation size file map imports ≡ chosen ram
-      → P.select mode isolation size file map imports ≡ some ram
-  pub selection : (mode : MemoryAllocationMode) (isolation : IsolationType) (size : OptionU64) (file : MemoryRange) (map : List MemoryEntry)
-      (imports : List MemoryRange) (ram : List TaggedRange) → P.select mode isolation size file map imports ≡ some ram
+      → P.select mode isolation size file map imports ≡ Some ram
+  pub selection : (mode : MemoryAllocationMode) (isolation : IsolationType) (size : Option ℕ) (file : MemoryRange) (map : List MemoryEntry)
+      (imports : List MemoryRange) (ram : List TaggedRange) → P.select mode isolation size file map imports ≡ Some ram
       → SelectionClaim mode isolation size file map imports ram
   -- every build that the definitions accept is accepted, and what is claimed of every list of calls from it holds
   pub builds : (b : AddressSpaceManagerBuilder) (ram : List TaggedRange) (configs pools : List MemoryRange) (es : List AddressRange)
-      → build b 0 ram configs pools ≡ built es → (s : P.State) × (P.build b ram configs pools ≡ some s)
+      → build b 0 ram configs pools ≡ built es → (s : P.State) × (P.build b ram configs pools ≡ Some s)
   pub calls : (b : AddressSpaceManagerBuilder) (ram : List TaggedRange) (configs pools : List MemoryRange) (s : P.State)
-      → P.build b ram configs pools ≡ some s → (calls : List Call) → Claim P b ram configs pools s calls
+      → P.build b ram configs pools ≡ Some s → (calls : List Call) → Claim P b ram configs pools s calls

@@ -1,7 +1,6 @@
 -- The ledger, document 01's book (docs/SPEC.md, section 27): which ranges are free, and what was cut from them. It is fed the RAM list, the used and pool
 -- ranges of the build, and each call's arguments and answer; nothing of the table.
-use Rattle.std.specs.Prelude.{ℕ, min, max, cond, List, [], ◌∷◌, ◌++◌, ltb}
-use Rattle.std.proofs.Math.Option.{Option, none, some}
+use Rattle.std.specs.Prelude.{ℕ, min, max, cond, List, [], ◌∷◌, ◌++◌, ltb, Option, Some, None}
 use Rattle.memory_range.specs.declared.range.MemoryRange.{MemoryRange}
 use Rattle.memory_range.specs.declared.range.TaggedRange.{TaggedRange}
 use Rattle.memory_range.specs.List.{tagged}
@@ -55,13 +54,13 @@ fed c (gave xs) l = cut_given (usage_of_call c) xs l
 
 -- what the byte at a is used for since it was last cut, if it was
 abbrev pub last_cut : List Cut → ℕ → Option AddressUsage
-last_cut [] a = none
-last_cut (c ∷ cs) a = cond (holds c.range a) (some c.usage) (last_cut cs a)
+last_cut [] a = None
+last_cut (c ∷ cs) a = cond (holds c.range a) (Some c.usage) (last_cut cs a)
 
 -- what it is used for: as the call that last cut it says, else as the build does
 abbrev pub usage_since : Option AddressUsage → AddressUsage → AddressUsage
-usage_since (some u) v = u
-usage_since none v = v
+usage_since (Some u) v = u
+usage_since None v = v
 
 abbrev pub usage_by : AddressSpaceManagerBuilder → List MemoryRange → List MemoryRange → Ledger → ℕ → AddressUsage
 usage_by b configs pools l a = usage_since (last_cut l.cuts a) (usage_said b configs pools a)

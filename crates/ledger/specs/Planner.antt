@@ -1,15 +1,11 @@
 -- Planners, and the run of a list of calls (docs/SPEC.md, section 27).
-use Rattle.std.specs.Prelude.{ℕ, Bool, List, [], ◌∷◌, length}
-use Rattle.std.proofs.Math.Option.{Option, none, some}
+use Rattle.std.specs.Prelude.{ℕ, Bool, List, [], ◌∷◌, length, Option, Some, None, Result, Ok, Err}
+use Rattle.refusal.specs.declared.Refusal.{Refusal}
 use Rattle.memory_range.specs.declared.range.MemoryRange.{MemoryRange}
 use Rattle.memory_range.specs.declared.range.TaggedRange.{TaggedRange}
-use Rattle.memory_range.specs.List.{first_tagged}
 use Rattle.host_params.specs.declared.IsolationType.{IsolationType}
 use Rattle.host_params.specs.declared.MemoryAllocationMode.{MemoryAllocationMode}
 use Rattle.host_params.specs.declared.MemoryEntry.{MemoryEntry}
-use Rattle.host_params.specs.declared.OptionU64.{OptionU64}
-use Rattle.vtl2_ram.specs.declared.ram.Selection.{Selection}
-use Rattle.vtl2_ram.specs.declared.ram.Selection.TheVariants as selection
 use Rattle.vtl2_ram.specs.declared.ram.Vtl2Ram.{Vtl2Ram}
 use Rattle.vtl2_ram.specs.Ram.{ram_as}
 use Rattle.vtl2_ram.specs.Select.{choice}
@@ -19,8 +15,6 @@ use Rattle.address_space.specs.declared.table.AddressSpaceManager.{AddressSpaceM
 use Rattle.address_space.specs.Request.{requested_on}
 use Rattle.address_space.specs.Table.{entries_of, pool_of, empty_table}
 use Rattle.memory.specs.declared.builder.AddressSpaceManagerBuilder.{AddressSpaceManagerBuilder}
-use Rattle.memory.specs.declared.init.Initialized.{Initialized}
-use Rattle.memory.specs.declared.init.Initialized.TheVariants.{Table, Refused}
 use Rattle.memory.specs.declared.init.Init.{Init}
 use Rattle.memory.specs.Build.{build, has_pool, init_as}
 use Rattle.private_pool.specs.declared.pool.PrivatePool.{PrivatePool}
@@ -36,7 +30,7 @@ pub record Answered (S : Type 0) : Type 0 where
 -- a planner: its selection, and its build, requests and placements over states of its own, of which only the table's entries and the pool flag are looked at
 pub record Planner : Type 1 where
   -- the RAM chosen by mode, isolation, RAM size, file, map and imported ranges; none where refused
-  pub select : MemoryAllocationMode → IsolationType → OptionU64 → MemoryRange → List MemoryEntry → List MemoryRange → Option (List TaggedRange)
+  pub select : MemoryAllocationMode → IsolationType → Option ℕ → MemoryRange → List MemoryEntry → List MemoryRange → Option (List TaggedRange)
   pub State : Type 0
   pub entries : State → List AddressRange
   pub flag : State → Bool
@@ -46,16 +40,13 @@ pub record Planner : Type 1 where
   pub place : ℕ → Bool → State → Answered State
 
 -- the planner that the definitions are: each part is what the contract of the code's function says of its result
-abbrev pub selected : Selection → List ℕ → List ℕ → List ℕ → Option (List TaggedRange)
-selected (selection.Chosen n bytes) ss es ts = some (first_tagged n ss es ts)
-selected (selection.Refused n) ss es ts = none
+abbrev pub selection_of : Result Vtl2Ram Refusal → Option (List TaggedRange)
+selection_of (Ok r) = Some r.entries.items
+selection_of (Err n) = None
 
-abbrev pub selection_of : Vtl2Ram → Option (List TaggedRange)
-selection_of r = selected r.selection r.starts r.ends r.nodes
-
-abbrev pub initialized : Initialized → AddressSpaceManager → Option AddressSpaceManager
-initialized Table m = some m
-initialized (Refused n) m = none
+abbrev pub initialized : Result (Unit {0}) Refusal → AddressSpaceManager → Option AddressSpaceManager
+initialized (Ok x) m = Some m
+initialized (Err n) m = None
 
 abbrev pub init_of : Init → Option AddressSpaceManager
 init_of i = initialized i.answer i.manager

@@ -1,6 +1,5 @@
 -- Searches, judged on the ledger's free ranges as they stand at that search (docs/SPEC.md, section 27).
-use Rattle.std.specs.Prelude.{ℕ, ◌*◌, ◌≤◌, ◌<◌, ◌≡◌, Bool, true, false, ◌||◌, List, [], ◌∷◌, ◌↔◌}
-use Rattle.std.proofs.Math.Option.{Option, none, some}
+use Rattle.std.specs.Prelude.{ℕ, ◌*◌, ◌≤◌, ◌<◌, ◌≡◌, Bool, true, false, ◌||◌, List, [], ◌∷◌, ◌↔◌, Option, Some, None}
 use Rattle.refusal.specs.Number.{no_fit, table_full, pool_too_large, pool_split, pool_node_no_fit}
 use Rattle.memory_range.specs.declared.range.TaggedRange.{TaggedRange}
 use Rattle.memory_range.specs.List.{tags_of}
@@ -8,10 +7,6 @@ use Rattle.memory_range.specs.Round.{round_up}
 use Rattle.memory_range.specs.Valid.{page_size}
 use Rattle.host_params.specs.declared.AllocationPolicy.{AllocationPolicy}
 use Rattle.host_params.specs.declared.AllocationPolicy.TheVariants.{HighMemory}
-use Rattle.host_params.specs.declared.OptionU32.{OptionU32}
-use Rattle.host_params.specs.declared.OptionU32.TheVariants as node
-use Rattle.host_params.specs.declared.OptionU64.{OptionU64}
-use Rattle.host_params.specs.declared.OptionU64.TheVariants as number
 use Rattle.address_space.specs.declared.request.AllocatedRange.{AllocatedRange}
 use Rattle.address_space.specs.Fit.{aligned_to, fits_in}
 use Rattle.address_space.specs.Request.{rows_refusal}
@@ -24,25 +19,25 @@ use Rattle.ledger.specs.Call.{Request, Call, request, pool, Answer, refused, gav
 use Rattle.ledger.specs.Ledger.{cut}
 
 -- whether a free range meets the fit rule, and whether some of them does
-abbrev pub fits : OptionU32 → ℕ → OptionU64 → TaggedRange → Bool
+abbrev pub fits : Option ℕ → ℕ → Option ℕ → TaggedRange → Bool
 fits asked len alignment x = fits_in asked len alignment (free_entry x.tag x.range)
 
-abbrev pub some_entry_fits : OptionU32 → ℕ → OptionU64 → List TaggedRange → Bool
+abbrev pub some_entry_fits : Option ℕ → ℕ → Option ℕ → List TaggedRange → Bool
 some_entry_fits asked len alignment [] = false
 some_entry_fits asked len alignment (x ∷ xs) = fits asked len alignment x || some_entry_fits asked len alignment xs
 
 -- the range that the rule gives of free ranges: so many bytes of the first that fits, looked for from the side that the policy names
-abbrev pub taken_from : ℕ → AllocationPolicy → OptionU64 → Search TaggedRange → Option AllocatedRange
-taken_from len policy alignment nothing = none
+abbrev pub taken_from : ℕ → AllocationPolicy → Option ℕ → Search TaggedRange → Option AllocatedRange
+taken_from len policy alignment nothing = None
 taken_from len policy alignment (found before x after) =
-    some (record { range = allotted policy len (aligned_to alignment x.range); vnode = x.tag })
+    Some (record { range = allotted policy len (aligned_to alignment x.range); vnode = x.tag })
 
-abbrev pub given_of : OptionU32 → ℕ → AllocationPolicy → OptionU64 → List TaggedRange → Option AllocatedRange
+abbrev pub given_of : Option ℕ → ℕ → AllocationPolicy → Option ℕ → List TaggedRange → Option AllocatedRange
 given_of asked len policy alignment free = taken_from len policy alignment (searched policy (fits asked len alignment) free)
 
 -- a request is searched for where it passes the rows above 25, and is then turned away with 25 exactly where no free range fits
 abbrev pub SearchedFor : Request → Type 0
-SearchedFor r = rows_refusal r.len r.alignment ≡ none
+SearchedFor r = rows_refusal r.len r.alignment ≡ None
 
 abbrev pub RequestSearched : Request → List TaggedRange → Answer → Type 0
 RequestSearched r free answer =
@@ -51,10 +46,10 @@ RequestSearched r free answer =
 
 -- a piece of a pool: whether some free range fits it, and the range that it is given
 abbrev pub piece_fits : PoolPiece → List TaggedRange → Bool
-piece_fits p free = some_entry_fits (node.Some p.node) (p.pages * page_size) number.None free
+piece_fits p free = some_entry_fits (Some p.node) (p.pages * page_size) None free
 
 abbrev pub piece_given : PoolPiece → List TaggedRange → Option AllocatedRange
-piece_given p free = given_of (node.Some p.node) (p.pages * page_size) HighMemory number.None free
+piece_given p free = given_of (Some p.node) (p.pages * page_size) HighMemory None free
 
 -- a range in front of those of an answer
 abbrev pub ahead : AllocatedRange → Answer → Answer
@@ -68,7 +63,7 @@ pub data PieceSearched (p : PoolPiece) (rest : List TaggedRange → Answer → T
   -- one fits, and its split has no room in the table: the answer is 26
   full : piece_fits p free ≡ true → answer ≡ refused table_full → PieceSearched p rest free answer
   -- one fits, and gives the piece the range x
-  met : (x : AllocatedRange) (after : Answer) → piece_fits p free ≡ true → piece_given p free ≡ some x → rest (cut x.range free) after
+  met : (x : AllocatedRange) (after : Answer) → piece_fits p free ≡ true → piece_given p free ≡ Some x → rest (cut x.range free) after
       → answer ≡ ahead x after → PieceSearched p rest free answer
 
 -- the pieces one after the other, up to the first that is refused
@@ -95,7 +90,7 @@ pub data PoolSearched (pages : ℕ) (split : Bool) (nodes : List ℕ) (free : Li
   full : pages < pages_bound → whole_tried pages split ≡ true → piece_fits (piece 0 pages) free ≡ true → answer ≡ refused table_full
       → PoolSearched pages split nodes free answer
   met : (x : AllocatedRange) → pages < pages_bound → whole_tried pages split ≡ true → piece_fits (piece 0 pages) free ≡ true
-      → piece_given (piece 0 pages) free ≡ some x → answer ≡ gave (x ∷ []) → PoolSearched pages split nodes free answer
+      → piece_given (piece 0 pages) free ≡ Some x → answer ≡ gave (x ∷ []) → PoolSearched pages split nodes free answer
 
 -- the searches of a call. The nodes of the table are those of its RAM
 abbrev pub Searched : List TaggedRange → Call → List TaggedRange → Answer → Type 0

@@ -1,8 +1,7 @@
 -- Planners that are wrong, each in one way and else right (docs/SPEC.md, section 27). The claim is refuted for each of them (Laws/Wrong.antt).
-use Rattle.std.specs.Prelude.{ℕ, Bool, cond, ◌||◌, List, [], ◌∷◌, map, eqb}
-use Rattle.std.proofs.Math.Option.{Option, none, some}
+use Rattle.std.specs.Prelude.{ℕ, Bool, cond, ◌||◌, List, [], ◌∷◌, map, eqb, Option, Some, None}
 use Rattle.refusal.specs.Rows.{unless}
-use Rattle.refusal.specs.Number.{no_fit, pool_node_no_fit}
+use Rattle.refusal.specs.Number.{no_fit, pool_node_no_fit, number_of}
 use Rattle.memory_range.specs.declared.range.TaggedRange.{TaggedRange}
 use Rattle.vtl2_ram.specs.Choice.{Choice}
 use Rattle.vtl2_ram.specs.Choice as choice-made
@@ -39,19 +38,19 @@ right c s = record { answer = answer_on c s.entries; state = entries_on c s.entr
 
 -- the right RAM
 abbrev pub ram_chosen : Choice → Option (List TaggedRange)
-ram_chosen (choice-made.refused n) = none
-ram_chosen (choice-made.chosen ram) = some ram
+ram_chosen (choice-made.refused n) = None
+ram_chosen (choice-made.chosen ram) = Some ram
 
 -- the state after a build: the right table and flag
 abbrev pub begun : Bool → Build → Option TableState
-begun flag (table.refused n) = none
-begun flag (table.built es) = some (record { entries = es; flag = flag; first = none })
+begun flag (table.refused n) = None
+begun flag (table.built es) = Some (record { entries = es; flag = flag; first = None })
 
 -- the first range handed out: the one before, else the first of these
 abbrev pub first_or : Option AllocatedRange → List AllocatedRange → Option AllocatedRange
-first_or (some x) ys = some x
-first_or none [] = none
-first_or none (y ∷ ys) = some y
+first_or (Some x) ys = Some x
+first_or None [] = None
+first_or None (y ∷ ys) = Some y
 
 -- the answer, and the state afterwards
 abbrev pub after : Call → TableState → Answered (List AddressRange) → Answered TableState
@@ -91,8 +90,8 @@ left_free c s = record { answer = answer_on c s.entries; state = s.entries }
 
 -- an answer with the same range as before, if there is one
 abbrev pub same_or : Option AllocatedRange → List AddressRange → Answered (List AddressRange) → Answered (List AddressRange)
-same_or none es a = a
-same_or (some x) es a = record { answer = gave (x ∷ []); state = es }
+same_or None es a = a
+same_or (Some x) es a = record { answer = gave (x ∷ []); state = es }
 
 -- it hands out a range again: once a range was handed out, every request is answered with that one, and leaves the table as found
 abbrev pub again : Ways
@@ -109,7 +108,7 @@ pieces_taken [] es = es
 pieces_taken (p ∷ ps) es = gone_on es (pieces_taken ps) (piece_on p es)
 
 abbrev pub entries_kept : ℕ → List AddressRange → Placement → List AddressRange
-entries_kept pages es (placement.refused n) = cond (eqb n pool_node_no_fit) (pieces_taken (split_pieces pages (table_nodes es)) es) es
+entries_kept pages es (placement.refused n) = cond (eqb (number_of n) (number_of pool_node_no_fit)) (pieces_taken (split_pieces pages (table_nodes es)) es) es
 entries_kept pages es (placement.placed xs es') = es'
 
 -- it keeps the pieces of a refused pool: where a piece finds no fit, the answer is right, and the table keeps what the pieces before it took
@@ -138,11 +137,11 @@ neighbour c s =
 abbrev pub refusing : Planner
 refusing =
     record {
-      select = λ mode isolation size file map imports. none;
+      select = λ mode isolation size file map imports. None;
       State = TableState;
       entries = λ s. s.entries;
       flag = λ s. s.flag;
-      build = λ b ram configs pools. none;
+      build = λ b ram configs pools. None;
       ask = λ r s. after (request r) s (right (request r) s);
       place = λ pages split s. after (pool pages split) s (right (pool pages split) s);
     }

@@ -1,5 +1,5 @@
 -- The line that spells a record (docs/SPEC.md, section 13): each value has one spelling, so each record has one line.
-use Rattle.std.specs.Prelude.{ℕ, ◌^◌, ◌<◌, Bool, true, false, List, [], ◌∷◌}
+use Rattle.std.specs.Prelude.{ℕ, ◌^◌, ◌<◌, Bool, true, false, List, [], ◌∷◌, Option, Some, None}
 use Prim.Native.String.{String}
 use Rattle.memory_range.specs.declared.range.MemoryRange.{MemoryRange}
 use Rattle.host_params.specs.declared.AllocationPolicy.{AllocationPolicy}
@@ -13,10 +13,6 @@ use Rattle.host_params.specs.declared.MemoryAllocationMode.{MemoryAllocationMode
 use Rattle.host_params.specs.declared.MemoryAllocationMode.TheVariants.{Host, Vtl2}
 use Rattle.host_params.specs.declared.MemoryMapEntryType.{MemoryMapEntryType}
 use Rattle.host_params.specs.declared.MemoryMapEntryType.TheVariants.{Vtl2Protectable, Memory}
-use Rattle.host_params.specs.declared.OptionU32.{OptionU32}
-use Rattle.host_params.specs.declared.OptionU32.TheVariants as u32
-use Rattle.host_params.specs.declared.OptionU64.{OptionU64}
-use Rattle.host_params.specs.declared.OptionU64.TheVariants as u64
 use Rattle.host_params.specs.declared.Vtl2GpaPoolConfig.{Vtl2GpaPoolConfig}
 use Rattle.host_params.specs.declared.Vtl2GpaPoolConfig.TheVariants.{Heuristics, Off, Pages}
 use Rattle.host_params.specs.declared.Vtl2GpaPoolLookupTable.{Vtl2GpaPoolLookupTable}
@@ -69,13 +65,13 @@ pages_for (Heuristics table) = ascii "-"
 pages_for Off = ascii "-"
 pages_for (Pages n) = hex_of n
 
-abbrev pub optional_for : OptionU64 → List ℕ
-optional_for (u64.Some n) = hex_of n
-optional_for u64.None = ascii "-"
+abbrev pub optional_for : Option ℕ → List ℕ
+optional_for (Some n) = hex_of n
+optional_for None = ascii "-"
 
-abbrev pub optional_node_for : OptionU32 → List ℕ
-optional_node_for (u32.Some n) = hex_of n
-optional_node_for u32.None = ascii "-"
+abbrev pub optional_node_for : Option ℕ → List ℕ
+optional_node_for (Some n) = hex_of n
+optional_node_for None = ascii "-"
 
 abbrev pub range_fields : String → MemoryRange → List (List ℕ)
 range_fields word r = ascii word ∷ hex_of r.start ∷ hex_of r.end ∷ []
@@ -104,13 +100,13 @@ abbrev pub line_for : Record → List ℕ
 line_for r = join_with tab (fields_for r)
 
 -- the numbers of a record have 64 bits, a node 32
-abbrev pub SizedOption : OptionU64 → Type 0
-SizedOption (u64.Some n) = n < 2 ^ 64
-SizedOption u64.None = Unit {0}
+abbrev pub SizedOption : Option ℕ → Type 0
+SizedOption (Some n) = n < 2 ^ 64
+SizedOption None = Unit {0}
 
-abbrev pub SizedNode : OptionU32 → Type 0
-SizedNode (u32.Some n) = n < 2 ^ 32
-SizedNode u32.None = Unit {0}
+abbrev pub SizedNode : Option ℕ → Type 0
+SizedNode (Some n) = n < 2 ^ 32
+SizedNode None = Unit {0}
 
 abbrev pub SizedConfig : Vtl2GpaPoolConfig → Type 0
 SizedConfig (Heuristics table) = Unit {0}

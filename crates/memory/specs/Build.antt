@@ -1,5 +1,6 @@
 -- The build (docs/SPEC.md, section 24; document 01, Port order 5, and rows 4, 5 and 15 to 21 of the chart).
-use Rattle.std.specs.Prelude.{ℕ, Bool, true, false, ◌||◌, List, [], ◌∷◌, ◌++◌, get_or}
+use Rattle.std.specs.Prelude.{ℕ, Bool, true, false, ◌||◌, List, [], ◌∷◌, ◌++◌, get_or, Ok, Err}
+use Rattle.refusal.specs.declared.Refusal.{Refusal}
 use Rattle.refusal.specs.Number.{used_outside_ram}
 use Rattle.refusal.specs.Rows.{refused_if, unless}
 use Rattle.memory_range.specs.declared.range.MemoryRange.{MemoryRange}
@@ -16,13 +17,12 @@ use Rattle.address_space.specs.Table.{entry, pool_of, table_with}
 use Rattle.address_space.specs.Usage.{usage_of}
 use Rattle.memory.specs.declared.builder.AddressSpaceManagerBuilder.{AddressSpaceManagerBuilder}
 use Rattle.memory.specs.declared.init.Init.{Init}
-use Rattle.memory.specs.declared.init.Initialized.TheVariants.{Table, Refused}
 use Rattle.memory.specs.Rows.{rows_refusal}
 use Rattle.memory.specs.Used.{any_outside, used_of, used_refusal}
 
--- what a build comes to: a refusal's number, or the table's entries
+-- what a build comes to: a refusal, or the table's entries
 pub data Build : Type 0 where
-  refused : ℕ → Build
+  refused : Refusal → Build
   built : List AddressRange → Build
 
 -- a piece of the RAM, with the node of the entry that holds it: free, or what the used range that holds it says
@@ -56,12 +56,12 @@ has_pool (r ∷ rs) = true
 
 -- the table with so many entries of its array, and its flag set where there are pool ranges
 abbrev pub finished_with : AddressSpaceManager → ℕ → Bool → Init
-finished_with m n pool = record { answer = Table; manager = record { address_space = m.address_space; count = n; vtl2_pool = pool_of m || pool } }
+finished_with m n pool = record { answer = Ok tt; manager = record { address_space = m.address_space; count = n; vtl2_pool = pool_of m || pool } }
 
 -- the answer and the table: a refusal leaves the table and the flag as found
-abbrev pub refused_with : AddressSpaceManager → ℕ → Init
-refused_with m n = record { answer = Refused n; manager = m }
+abbrev pub refused_with : AddressSpaceManager → Refusal → Init
+refused_with m r = record { answer = Err r; manager = m }
 
 abbrev pub init_as : AddressSpaceManager → Bool → Build → Init
-init_as m pool (refused n) = refused_with m n
-init_as m pool (built es) = record { answer = Table; manager = table_with m es (pool_of m || pool) }
+init_as m pool (refused r) = refused_with m r
+init_as m pool (built es) = record { answer = Ok tt; manager = table_with m es (pool_of m || pool) }

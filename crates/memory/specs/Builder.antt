@@ -1,5 +1,5 @@
 -- What a build is given by single ranges (docs/SPEC.md, section 24).
-use Rattle.std.specs.Prelude.{ℕ, ◌+◌, Bool, true, ◌&&◌, cond, List, [], ◌∷◌, ◌++◌, map, ltb, length}
+use Rattle.std.specs.Prelude.{ℕ, ◌+◌, Bool, true, ◌&&◌, cond, List, [], ◌∷◌, ◌++◌, map, ltb, length, Option, Some, None}
 use Rattle.memory_range.specs.declared.range.MemoryRange.{MemoryRange}
 use Rattle.memory_range.specs.declared.range.SplitRange.{SplitRange}
 use Rattle.memory_range.specs.declared.range.TaggedRange.{TaggedRange}
@@ -9,8 +9,6 @@ use Rattle.address_space.specs.declared.usage.ReservedMemoryType.{ReservedMemory
 use Rattle.address_space.specs.declared.usage.ReservedMemoryType.TheVariants.{Vtl2Config, Vtl2Reserved, SidecarImage, TdxPageTables, BootshimLogBuffer, PersistedStateHeader, PersistedStatePayload}
 use Rattle.address_space.specs.Usage.{reserved_number_of}
 use Rattle.memory.specs.declared.builder.AddressSpaceManagerBuilder.{AddressSpaceManagerBuilder}
-use Rattle.memory.specs.declared.builder.OptionRange.{OptionRange}
-use Rattle.memory.specs.declared.builder.OptionRange.TheVariants.{Some, None}
 
 -- with the used range and the persisted state, and nothing else
 abbrev pub builder_of : MemoryRange → MemoryRange → AddressSpaceManagerBuilder
@@ -70,7 +68,7 @@ with_log_buffer b r =
     }
 
 -- row 4 of an optional range, and of all single ranges
-abbrev pub option_valid : OptionRange → Bool
+abbrev pub option_valid : Option MemoryRange → Bool
 option_valid (Some r) = valid_range r
 option_valid None = true
 
@@ -89,12 +87,12 @@ reserved_as t r = record { range = r; tag = reserved_number_of t }
 abbrev pub all_as : ReservedMemoryType → List MemoryRange → List TaggedRange
 all_as t = map (reserved_as t)
 
-abbrev pub option_as : ReservedMemoryType → OptionRange → List TaggedRange
+abbrev pub option_as : ReservedMemoryType → Option MemoryRange → List TaggedRange
 option_as t (Some r) = reserved_as t r ∷ []
 option_as t None = []
 
 -- how many ranges an optional one is
-abbrev pub option_count : OptionRange → ℕ
+abbrev pub option_count : Option MemoryRange → ℕ
 option_count (Some r) = 1
 option_count None = 0
 
@@ -103,7 +101,7 @@ abbrev pub state_of : AddressSpaceManagerBuilder → SplitRange
 state_of b = split_range_at b.persisted_state_region page_size
 
 -- a range without bytes is dropped
-abbrev pub given_range : MemoryRange → OptionRange
+abbrev pub given_range : MemoryRange → Option MemoryRange
 given_range r = cond (ltb r.start r.end) (Some r) None
 
 -- the optional ranges that are given

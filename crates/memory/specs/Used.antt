@@ -1,9 +1,7 @@
 -- The used range cut up by the reserved ranges, with the pool ranges: what of the RAM is not free
 -- (docs/SPEC.md, section 24).
-use Rattle.std.specs.Prelude.{ℕ, ◌+◌, ◌<◌, ◌≡◌, Bool, true, false, cond, ◌||◌, List, [], ◌∷◌, ◌++◌, ltb, length, get_or}
-use Rattle.std.proofs.Math.Option.{Option, none}
-use Rattle.refusal.specs.declared.answer.Counted.{Counted}
-use Rattle.refusal.specs.Answer.{counted_as}
+use Rattle.std.specs.Prelude.{ℕ, ◌+◌, ◌<◌, ◌≡◌, Bool, true, false, cond, ◌||◌, List, [], ◌∷◌, ◌++◌, ltb, length, get_or, Option, None, Result}
+use Rattle.refusal.specs.Answer.{rows_as}
 use Rattle.refusal.specs.Number.{reserved_overlap, reserved_outside_used, pool_ranges}
 use Rattle.refusal.specs.Rows.{refused_if, downward}
 use Rattle.memory_range.specs.declared.range.MemoryRange.{MemoryRange}
@@ -11,7 +9,7 @@ use Rattle.memory_range.specs.declared.range.TaggedRange.{TaggedRange}
 use Rattle.range_lists.specs.declared.walk.RangeWalkResult.{RangeWalkResult}
 use Rattle.range_lists.specs.declared.walk.RangeWalkResult.TheVariants.{Left, Right, Both}
 use Rattle.range_lists.specs.declared.walk.WalkPiece.{WalkPiece}
-use Rattle.memory_range.specs.List.{ranges_in, tags_of, first_tagged}
+use Rattle.memory_range.specs.List.{ranges_in, tags_of}
 use Rattle.memory_range.specs.Bytes.{All, holders}
 use Rattle.memory_range.specs.Range.{overlap_ranges, holds}
 use Rattle.range_lists.specs.Sort.{sort_by_start}
@@ -20,6 +18,7 @@ use Rattle.address_space.specs.declared.usage.ReservedMemoryType.TheVariants.{Vt
 use Rattle.address_space.specs.Usage.{used_number}
 use Rattle.memory.specs.declared.builder.AddressSpaceManagerBuilder.{AddressSpaceManagerBuilder}
 use Rattle.memory.specs.Builder.{all_as, reserved_of}
+use Rattle.refusal.specs.declared.Refusal.{Refusal}
 
 -- at most so many pool ranges, and so many used pieces with them
 abbrev pub max_pools : ℕ
@@ -78,7 +77,7 @@ abbrev pub pools_bad : MemoryRange → ℕ → List MemoryRange → Bool
 pools_bad used pieces pools = ltb max_pools (length pools) || (any_overlap (used ∷ pools) || ltb max_used (pieces + length pools))
 
 -- rows 18, 19 and 20
-unfoldable pub used_refusal : AddressSpaceManagerBuilder → List MemoryRange → List MemoryRange → Option ℕ
+unfoldable pub used_refusal : AddressSpaceManagerBuilder → List MemoryRange → List MemoryRange → Option Refusal
 used_refusal b configs pools =
     downward
     (refused_if (any_overlap (ranges_in (reserved_of b configs))) reserved_overlap
@@ -86,14 +85,10 @@ used_refusal b configs pools =
     ∷ refused_if (pools_bad b.bootshim_used (length (pieces_used b configs)) pools) pool_ranges
     ∷ [])
 
--- of a function that lists ranges in three arrays: it answers a refusal, or how many they are, and then the arrays begin with them
-pub record ListedIn (refusal : Option ℕ) (xs : List TaggedRange) (answer : Counted) (ss es ts : List ℕ) : Type 0 where
-  pub answered : answer ≡ counted_as refusal (length xs)
-  pub found : refusal ≡ none → first_tagged (length xs) ss es ts ≡ xs
-
--- three arrays of one length
-abbrev pub RoomFor : ℕ → List ℕ → List ℕ → List ℕ → Type 0
-RoomFor n ss es ts = (length ss ≡ n) × (length es ≡ n) × (length ts ≡ n)
+-- of a function that lists ranges: it answers a refusal, or that there is none, and then the list is these ranges
+pub record ListedIn (refusal : Option Refusal) (xs : List TaggedRange) (answer : Result (Unit {0}) Refusal) (list : List TaggedRange) : Type 0 where
+  pub answered : answer ≡ rows_as refusal
+  pub found : refusal ≡ None → list ≡ xs
 
 -- ranges that are a range cut up: each has a byte, and they hold each byte of it once, and no other
 abbrev pub CutUp : MemoryRange → List TaggedRange → Type 0

@@ -4,22 +4,15 @@ ghost use Rattle.memory.specs.Builder.{builder_of, with_reserved_range, with_sid
 
 use memory_range::MemoryRange;
 
-// A range, or none: the Rust's `Option<MemoryRange>`.
-#[derive(Clone, Copy)]
-pub enum OptionRange {
-    Some(MemoryRange),
-    None,
-}
-
 #[derive(Clone, Copy)]
 pub struct AddressSpaceManagerBuilder {
     // What the boot shim uses. The kernel may take it, but for what is reserved in it.
     pub bootshim_used: MemoryRange,
     pub persisted_state_region: MemoryRange,
-    pub reserved_range: OptionRange,
-    pub sidecar_image: OptionRange,
-    pub page_tables: OptionRange,
-    pub log_buffer: OptionRange,
+    pub reserved_range: Option<MemoryRange>,
+    pub sidecar_image: Option<MemoryRange>,
+    pub page_tables: Option<MemoryRange>,
+    pub log_buffer: Option<MemoryRange>,
 }
 
 impl AddressSpaceManagerBuilder {
@@ -32,10 +25,10 @@ impl AddressSpaceManagerBuilder {
         AddressSpaceManagerBuilder {
             bootshim_used,
             persisted_state_region,
-            reserved_range: OptionRange::None,
-            sidecar_image: OptionRange::None,
-            page_tables: OptionRange::None,
-            log_buffer: OptionRange::None,
+            reserved_range: None,
+            sidecar_image: None,
+            page_tables: None,
+            log_buffer: None,
         }
     }
 
@@ -43,7 +36,7 @@ impl AddressSpaceManagerBuilder {
         ensures { result ≡ with_reserved_range self reserved_range }
     {
         AddressSpaceManagerBuilder {
-            reserved_range: OptionRange::Some(reserved_range),
+            reserved_range: Some(reserved_range),
             ..self
         }
     }
@@ -52,7 +45,7 @@ impl AddressSpaceManagerBuilder {
         ensures { result ≡ with_sidecar_image self sidecar_image }
     {
         AddressSpaceManagerBuilder {
-            sidecar_image: OptionRange::Some(sidecar_image),
+            sidecar_image: Some(sidecar_image),
             ..self
         }
     }
@@ -61,7 +54,7 @@ impl AddressSpaceManagerBuilder {
         ensures { result ≡ with_page_tables self page_tables }
     {
         AddressSpaceManagerBuilder {
-            page_tables: OptionRange::Some(page_tables),
+            page_tables: Some(page_tables),
             ..self
         }
     }
@@ -70,7 +63,7 @@ impl AddressSpaceManagerBuilder {
         ensures { result ≡ with_log_buffer self log_buffer }
     {
         AddressSpaceManagerBuilder {
-            log_buffer: OptionRange::Some(log_buffer),
+            log_buffer: Some(log_buffer),
             ..self
         }
     }

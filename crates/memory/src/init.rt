@@ -1,8 +1,7 @@
 // The build.
-ghost use Rattle.std.specs.Prelude.{◌≡◌, length};
-ghost use Rattle.std.proofs.Math.Option.{none};
+ghost use Rattle.std.specs.Prelude.{◌≡◌, length, None};
 ghost use Rattle.refusal.specs.Rows.{unless};
-ghost use Rattle.memory_range.specs.List.{ranges_of, ranges_in, tagged_of};
+ghost use Rattle.memory_range.specs.List.{ranges_in};
 ghost use Rattle.address_space.specs.Table.{entries_of};
 ghost use Rattle.memory.specs.Build.{build, filled, has_pool, init_as, refused as build_refused};
 ghost use Rattle.memory.specs.Rows.{rows_refusal};
@@ -11,112 +10,51 @@ ghost use Rattle.memory.specs.Used.{used_of, used_refusal};
 use crate::builder::AddressSpaceManagerBuilder;
 use crate::fill::{fill_table, refused};
 use crate::rows::check_rows;
-use crate::used::{MAX_USED_RANGES, list_used};
+use crate::used::{UsedList, list_used};
 use address_space::AddressSpaceManager;
-use memory_range::{range_count, tagged_count};
-use refusal::{Counted, Rows};
+use memory_range::{MemoryRange, TaggedRange};
+use refusal::Refusal;
 
-#[derive(Clone, Copy)]
-pub enum Initialized {
-    // The table is built.
-    Table,
-    Refused(u8),
-}
-
-// The answer, and the table afterwards.
+// Whether the table is built, and the table afterwards.
 #[derive(Clone, Copy)]
 pub struct Init {
-    pub answer: Initialized,
+    pub answer: Result<(), Refusal>,
     pub manager: AddressSpaceManager,
 }
 
 // What is used is listed, and the table filled.
-fn build_table<'a>(
+fn build_table(
     builder: AddressSpaceManagerBuilder,
     manager: AddressSpaceManager,
-    ram_starts: &'a [u64],
-    ram_ends: &'a [u64],
-    ram_nodes: &'a [u32],
-    config_starts: &'a [u64],
-    config_ends: &'a [u64],
-    pool_starts: &'a [u64],
-    pool_ends: &'a [u64],
+    ram: &[TaggedRange],
+    configs: &[MemoryRange],
+    pools: &[MemoryRange],
 ) -> Init
-    requires { let ram = tagged_of ram_starts.now ram_ends.now ram_nodes.now in
-        let configs = ranges_of config_starts.now config_ends.now in
-        let pools = ranges_of pool_starts.now pool_ends.now in rows_refusal builder 0 (ranges_in ram) configs pools ≡ none }
-    ensures { let ram = tagged_of ram_starts.now ram_ends.now ram_nodes.now in
-        let configs = ranges_of config_starts.now config_ends.now in
-        let pools = ranges_of pool_starts.now pool_ends.now in result ≡ init_as manager (has_pool pools)
-        (unless build_refused (used_refusal builder configs pools) (filled ram (used_of builder configs pools))) }
+    requires { rows_refusal builder 0 (ranges_in ram.now) configs.now pools.now ≡ None }
+    ensures { result ≡ init_as manager (has_pool pools.now)
+        (unless build_refused (used_refusal builder configs.now pools.now) (filled ram.now (used_of builder configs.now pools.now))) }
 {
-    let mut used_starts = [0; MAX_USED_RANGES];
-    let mut used_ends = [0; MAX_USED_RANGES];
-    let mut used_tags = [0; MAX_USED_RANGES];
-    match list_used(
-        builder,
-        config_starts,
-        config_ends,
-        pool_starts,
-        pool_ends,
-        &mut used_starts,
-        &mut used_ends,
-        &mut used_tags,
-    ) {
-        Counted::Refused(number) => refused(manager, number),
-        Counted::Count(used) => fill_table(
-            manager,
-            range_count(pool_starts, pool_ends) != 0,
-            ram_starts,
-            ram_ends,
-            ram_nodes,
-            &used_starts[..used],
-            &used_ends[..used],
-            &used_tags[..used],
-        ),
+    let mut used = UsedList::new();
+    match list_used(builder, configs, pools, &mut used) {
+        Err(refusal) => refused(manager, refusal),
+        Ok(()) => fill_table(manager, !pools.is_empty(), ram, used.as_slice()),
     }
 }
 
 impl AddressSpaceManagerBuilder {
     // Builds the table from the RAM list. The table is to be empty.
-    pub fn init<'a>(
+    pub fn init(
         self,
         manager: AddressSpaceManager,
-        ram_starts: &'a [u64],
-        ram_ends: &'a [u64],
-        ram_nodes: &'a [u32],
-        config_starts: &'a [u64],
-        config_ends: &'a [u64],
-        pool_starts: &'a [u64],
-        pool_ends: &'a [u64],
+        ram: &[TaggedRange],
+        configs: &[MemoryRange],
+        pools: &[MemoryRange],
     ) -> Init
-        ensures { let ram = tagged_of ram_starts.now ram_ends.now ram_nodes.now in
-            let configs = ranges_of config_starts.now config_ends.now in
-            let pools = ranges_of pool_starts.now pool_ends.now in result ≡ init_as manager (has_pool pools) (build self (length (entries_of manager)) ram configs pools) }
+        ensures { result ≡ init_as manager (has_pool pools.now) (build self (length (entries_of manager)) ram.now configs.now pools.now) }
     {
-        let ram = tagged_count(ram_starts, ram_ends, ram_nodes);
-        match check_rows(
-            self,
-            manager.len(),
-            &ram_starts[..ram],
-            &ram_ends[..ram],
-            config_starts,
-            config_ends,
-            pool_starts,
-            pool_ends,
-        ) {
-            Rows::Refused(number) => refused(manager, number),
-            Rows::Passed => build_table(
-                self,
-                manager,
-                ram_starts,
-                ram_ends,
-                ram_nodes,
-                config_starts,
-                config_ends,
-                pool_starts,
-                pool_ends,
-            ),
+        match check_rows(self, manager.len(), ram, configs, pools) {
+            Err(refusal) => refused(manager, refusal),
+            Ok(()) => build_table(self, manager, ram, configs, pools),
         }
     }
 }

@@ -1,8 +1,7 @@
 // The builder of the typed address table: from the RAM list, the used range, and the reserved and pool
 // ranges, to the table that requests are made of.
 //
-// Lists are lent as slices of any length; where those of one list differ, the shortest tells how many
-// items there are. A refused build leaves the table and the flag as found.
+// Lists are lent as slices of any length. A refused build leaves the table and the flag as found.
 #![tactic(auto)]
 
 mod builder;
@@ -12,5 +11,5 @@ mod reserved;
 mod rows;
 mod used;
 
-pub use builder::{AddressSpaceManagerBuilder, OptionRange};
-pub use init::{Init, Initialized};
+pub use builder::AddressSpaceManagerBuilder;
+pub use init::Init;

@@ -1,15 +1,15 @@
 -- The rows of a build as rules: an accepted build keeps every one, and a refused one tells the number of the first that is broken. So a
 -- build that keeps all of them is accepted.
-use Rattle.std.specs.Prelude.{ℕ, ◌+◌, ◌≤◌, ◌<◌, ◌≡◌, Bool, true, false, cond, ◌&&◌, ◌↔◌, leb, eqb, length}
+use Rattle.std.specs.Prelude.{ℕ, ◌+◌, ◌≤◌, ◌<◌, ◌≡◌, Bool, true, false, cond, ◌&&◌, ◌↔◌, leb, eqb, length, Option, Some, None}
 use Rattle.std.proofs.Math.Path.{refl}
 use Rattle.std.proofs.Common.{sym, ◌∙◌, arith}
 use Rattle.std.proofs.Math.Bool.{not, true≢false, and-eq-true_iff}
 use mathlib.Core.List.{List, [], ◌∷◌, ◌++◌}
-use Rattle.std.proofs.Math.Option.{none, some, none-ne-some}
 use borrow.Author.Tests.{eqb-true, eq-eqb, ltb-true, ltb-false, not-false}
 use Rattle.std.proofs.Math.Dec.{ltb}
+use Rattle.refusal.specs.declared.Refusal.{Refusal}
 use Rattle.refusal.specs.Number.{range_invalid, ranges_not_ascending, ram_count_of, table_not_empty, reserved_count as reserved_count_number}
-use Rattle.refusal.specs.Number.{reserved_overlap, reserved_outside_used, pool_ranges, used_outside_ram}
+use Rattle.refusal.specs.Number.{reserved_overlap, reserved_outside_used, pool_ranges, used_outside_ram, number_of}
 use Rattle.refusal.specs.Rows.{refused_if}
 use Rattle.refusal.specs.Laws.Rows.{told_in-turn, rule_told, unless-told, contrary}
 use Rattle.refusal.specs.Laws.Rule as rule
@@ -30,8 +30,6 @@ use Rattle.address_space.specs.declared.table.AddressRange.{AddressRange}
 use Rattle.address_space.specs.declared.usage.ReservedMemoryType.{ReservedMemoryType}
 use Rattle.address_space.specs.declared.usage.ReservedMemoryType.TheVariants.{Vtl2Reserved, SidecarImage, TdxPageTables, BootshimLogBuffer}
 use Rattle.memory.specs.declared.builder.AddressSpaceManagerBuilder.{AddressSpaceManagerBuilder}
-use Rattle.memory.specs.declared.builder.OptionRange.{OptionRange}
-use Rattle.memory.specs.declared.builder.OptionRange.TheVariants.{Some, None}
 use Rattle.memory.specs.Build.{Build, refused, built, table_of, filled, build}
 use Rattle.memory.specs.Builder.{option_valid, singles_valid, option_as, options_of, reserved_of, reserved_count}
 use Rattle.memory.specs.Rows.{max_ram, max_reserved, rows_refusal}
@@ -43,7 +41,7 @@ use Rattle.memory_claims.specs.BuildRule.{BuildRow, row4, row5, row15, row16, ro
 use Rattle.memory_claims.specs.Laws.Build.{build-passed}
 
 -- the numbers of the rows are 4 to 21, each of one row
-numbered : (row : BuildRow) → (range_invalid ≤ number row) × (number row ≤ used_outside_ram)
+numbered : (row : BuildRow) → (number_of range_invalid ≤ number row) × (number row ≤ number_of used_outside_ram)
 numbered row4 = (omega arith, omega arith)
 numbered row5 = (omega arith, omega arith)
 numbered row15 = (omega arith, omega arith)
@@ -71,14 +69,14 @@ row-of row20 = refl
 row-of row21 = refl
 
 -- row 4 of the single ranges
-option_paged : (t : ReservedMemoryType) (o : OptionRange) → (option_valid o ≡ true) ↔ Paged (option_as t o)
+option_paged : (t : ReservedMemoryType) (o : Option MemoryRange) → (option_valid o ≡ true) ↔ Paged (option_as t o)
 option_paged t (Some r) = (λ v. (valid-parts r v, tt), λ h. valid-range r h.0.0 h.0.1 h.0.2)
 option_paged t None = (λ v. tt, λ h. refl)
 
-options_paged : (xs : List TaggedRange) (t : ReservedMemoryType) (o : OptionRange) → Paged xs → option_valid o ≡ true → Paged (xs ++ option_as t o)
+options_paged : (xs : List TaggedRange) (t : ReservedMemoryType) (o : Option MemoryRange) → Paged xs → option_valid o ≡ true → Paged (xs ++ option_as t o)
 options_paged xs t o h v = all_append (λ x. PagedRange x.range) xs (option_as t o) h ((option_paged t o).0 v)
 
-paged_options : (xs : List TaggedRange) (t : ReservedMemoryType) (o : OptionRange) → Paged (xs ++ option_as t o) → Paged xs × (option_valid o ≡ true)
+paged_options : (xs : List TaggedRange) (t : ReservedMemoryType) (o : Option MemoryRange) → Paged (xs ++ option_as t o) → Paged xs × (option_valid o ≡ true)
 paged_options xs t o h =
     let parts = all_split (λ x. PagedRange x.range) xs (option_as t o) h in
     (parts.0, (option_paged t o).1 parts.1)
@@ -136,9 +134,6 @@ pools-kept used pieces pools = (
   λ h. pools_good used pieces pools h.0 h.2 ((overlap-once (used ∷ pools)).1 h.1),
 )
 
-built-not_refused : {n : ℕ} {es : List AddressRange} → built es ≡ refused n → ⊥
-built-not_refused e = let z : ◌≡◌ {A = ℕ} 0 1 = cc in absurd (omega arith)
-
 module _ (b : AddressSpaceManagerBuilder) (entries : ℕ) (ram : List TaggedRange) (configs pools : List MemoryRange) where
   abbrev Rules : BuildRow → Type 0
   Rules = BuildRule b entries ram configs pools
@@ -146,20 +141,20 @@ module _ (b : AddressSpaceManagerBuilder) (entries : ℕ) (ram : List TaggedRang
   abbrev Keeps : ℕ → Type 0
   Keeps = BuildKept b entries ram configs pools
 
-  abbrev Breaks : ℕ → Type 0
-  Breaks = BuildBroken b entries ram configs pools
+  abbrev Breaks : Refusal → Type 0
+  Breaks n = BuildBroken b entries ram configs pools (number_of n)
 
-  nothing_yet : Keeps range_invalid
-  nothing_yet = rule.kept-none number Rules range_invalid (λ row. (numbered row).0)
+  nothing_yet : Keeps (number_of range_invalid)
+  nothing_yet = rule.kept-none number Rules (number_of range_invalid) (λ row. (numbered row).0)
 
   kept_next : (row : BuildRow) → Keeps (number row) → Rules row → Keeps (number row + 1)
   kept_next = rule.kept_more number Rules row_of row-of
 
   -- between 5 and 15 no row concerns a build
-  upto14 : Keeps (ranges_not_ascending + 1) → Keeps ram_count_of
+  upto14 : Keeps (number_of ranges_not_ascending + 1) → Keeps (number_of ram_count_of)
   upto14 k row l = go row l
     where
-      go : (row : BuildRow) → number row < ram_count_of → Rules row
+      go : (row : BuildRow) → number row < number_of ram_count_of → Rules row
       go row4 l = k row4 (omega arith)
       go row5 l = k row5 (omega arith)
       go row15 l = absurd (omega arith)
@@ -191,7 +186,7 @@ module _ (b : AddressSpaceManagerBuilder) (entries : ℕ) (ram : List TaggedRang
   kept-valid h = rw (paged-singles b (h.0, h.1, h.2), entries-valid ram h.3, paged-all configs h.4) (paged-all pools h.5)
 
   -- rows 4, 5 and 15 to 17
-  rows-broken : {n : ℕ} → rows_refusal b entries (ranges_in ram) configs pools ≡ some n → Breaks n
+  rows-broken : {n : Refusal} → rows_refusal b entries (ranges_in ram) configs pools ≡ Some n → Breaks n
   unfolding rows_refusal
   rows-broken =
       let ascending = ascend (ranges_in ram) in
@@ -215,9 +210,9 @@ module _ (b : AddressSpaceManagerBuilder) (entries : ℕ) (ram : List TaggedRang
       (λ t. let upto16 = kept_next row16 upto15 (eqb-true entries 0 (not-false (eqb entries 0) t)) in
       told_in-turn Breaks over reserved_count_number []
       (λ e. (row17, refl, λ h. absurd (omega (arith, ltb-true max_reserved (reserved_count b configs) e)), upto16))
-      (λ _ e. absurd (none-ne-some _ e))))))
+      (λ _ e. cc)))))
 
-  rows-kept : rows_refusal b entries (ranges_in ram) configs pools ≡ none → Keeps reserved_overlap
+  rows-kept : rows_refusal b entries (ranges_in ram) configs pools ≡ None → Keeps (number_of reserved_overlap)
   rows-kept e =
       let p = rows-passed b entries (ranges_in ram) configs pools e in
       let one = singles_paged b p.0 in
@@ -227,7 +222,7 @@ module _ (b : AddressSpaceManagerBuilder) (entries : ℕ) (ram : List TaggedRang
       kept_next row17 (kept_next row16 upto15 p.6) p.7
 
   -- rows 18 to 20, and row 21, where those above them are passed
-  module _ (passed : Keeps reserved_overlap) where
+  module _ (passed : Keeps (number_of reserved_overlap)) where
     four : Rules row4
     four = passed row4 (omega arith)
 
@@ -243,7 +238,7 @@ module _ (b : AddressSpaceManagerBuilder) (entries : ℕ) (ram : List TaggedRang
     abbrev bad : Bool
     bad = pools_bad used (length (pieces_used b configs)) pools
 
-    upto18 : overlap ≡ false → Keeps reserved_outside_used
+    upto18 : overlap ≡ false → Keeps (number_of reserved_outside_used)
     upto18 o = kept_next row18 passed ((overlap-once (ranges_in reserved)).0 o)
 
     outside_rule : overlap ≡ false → (outside ≡ false) ↔ Rules row19
@@ -257,10 +252,10 @@ module _ (b : AddressSpaceManagerBuilder) (entries : ℕ) (ram : List TaggedRang
             outside_bytes (used ∷ []) (ranges_in (sort_by_start reserved)) (omega arith, (four.0.0, tt))
             (reserved-ordered b configs singles (paged-all configs four.4) o)
 
-    upto19 : overlap ≡ false → outside ≡ false → Keeps pool_ranges
+    upto19 : overlap ≡ false → outside ≡ false → Keeps (number_of pool_ranges)
     upto19 o s = kept_next row19 (upto18 o) ((outside_rule o).0 s)
 
-    used-broken : {n : ℕ} → used_refusal b configs pools ≡ some n → Breaks n
+    used-broken : {n : Refusal} → used_refusal b configs pools ≡ Some n → Breaks n
     unfolding used_refusal
     used-broken =
         told_in-turn Breaks overlap reserved_overlap (refused_if outside reserved_outside_used ∷ refused_if bad pool_ranges ∷ [])
@@ -269,10 +264,10 @@ module _ (b : AddressSpaceManagerBuilder) (entries : ℕ) (ram : List TaggedRang
         (λ e. (row19, refl, λ h. true≢false (sym e ∙ (outside_rule o).1 h), upto18 o))
         (λ s. told_in-turn Breaks bad pool_ranges []
         (λ e. (row20, refl, λ h. true≢false (sym e ∙ (pools-kept used (length (pieces_used b configs)) pools).1 h), upto19 o s))
-        (λ _ e. absurd (none-ne-some _ e))))
+        (λ _ e. cc)))
 
-    module _ (listed : used_refusal b configs pools ≡ none) where
-      upto20 : Keeps used_outside_ram
+    module _ (listed : used_refusal b configs pools ≡ None) where
+      upto20 : Keeps (number_of used_outside_ram)
       upto20 =
           let p = used_refused-none b configs pools listed in
           kept_next row20 (upto19 p.0 p.1) ((pools-kept used (length (pieces_used b configs)) pools).0 p.2)
@@ -293,15 +288,15 @@ module _ (b : AddressSpaceManagerBuilder) (entries : ℕ) (ram : List TaggedRang
           bytes : (beyond ≡ false) ↔ ((a : ℕ) → 0 < holders (ranges_in (used_of b configs pools)) a → 0 < holders (ranges_in ram) a)
           bytes = outside_bytes (ranges_in ram) (ranges_in (used_of b configs pools)) (passed row5 (omega arith)) lists.0
 
-      filled-broken : {n : ℕ} → filled ram (used_of b configs pools) ≡ refused n → Breaks n
+      filled-broken : {n : Refusal} → filled ram (used_of b configs pools) ≡ refused n → Breaks n
       unfolding filled
       filled-broken =
           unless-told refused (λ k n e. cc) Breaks (refused_if beyond used_outside_ram) (built (table_of ram (used_of b configs pools)))
           (rule_told Breaks beyond used_outside_ram (λ e. (row21, refl, λ h. true≢false (sym e ∙ beyond_rule.1 h), upto20)))
-          (λ _ e. absurd (built-not_refused e))
+          (λ _ e. cc)
 
   -- a refusal tells the number of the first rule that is broken
-  pub refused-broken : {n : ℕ} → build b entries ram configs pools ≡ refused n → Breaks n
+  pub refused-broken : {n : Refusal} → build b entries ram configs pools ≡ refused n → Breaks n
   unfolding build
   refused-broken =
       unless-told refused (λ k n e. cc) Breaks (rows_refusal b entries (ranges_in ram) configs pools) _ rows-broken
@@ -314,7 +309,7 @@ module _ (b : AddressSpaceManagerBuilder) (entries : ℕ) (ram : List TaggedRang
       let passed = build-passed b entries ram configs pools es e in
       let rows = rows-kept passed.0 in
       let all = kept_next row21 (upto20 rows passed.1) ((beyond_rule rows passed.1).0 passed.3) in
-      rule.kept-all number Rules (used_outside_ram + 1) (λ row. omega (arith, (numbered row).1)) all
+      rule.kept-all number Rules (number_of used_outside_ram + 1) (λ row. omega (arith, (numbered row).1)) all
 
   -- so one that keeps every rule is accepted
   pub kept-built : ((row : BuildRow) → Rules row) → (es : List AddressRange) × (build b entries ram configs pools ≡ built es)

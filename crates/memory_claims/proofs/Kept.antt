@@ -1,11 +1,9 @@
 -- The claims of the table's value: what a request leaves in it.
-use Rattle.std.specs.Prelude.{ℕ, ◌%◌, ◌<◌, ◌≡◌, refl, true, ◌||◌, List}
+use Rattle.std.specs.Prelude.{ℕ, ◌%◌, ◌<◌, ◌≡◌, refl, true, ◌||◌, List, Option}
 use Rattle.memory_range.specs.declared.range.TaggedRange.{TaggedRange}
 use Rattle.memory_range.specs.Valid.{page_size}
 use Rattle.host_params.specs.declared.AllocationPolicy.{AllocationPolicy}
 use Rattle.host_params.specs.declared.AllocationType.{AllocationType}
-use Rattle.host_params.specs.declared.OptionU32.{OptionU32}
-use Rattle.host_params.specs.declared.OptionU64.{OptionU64}
 use Rattle.address_space.specs.declared.request.AllocatedRange.{AllocatedRange}
 use Rattle.address_space.specs.declared.table.AddressRange.{AddressRange}
 use Rattle.address_space.specs.declared.table.AddressSpaceManager.{AddressSpaceManager}
@@ -16,7 +14,7 @@ use Rattle.address_space.specs.Laws.Split.{entries_with}
 use Rattle.memory_claims.specs.Claim.{Sound, Of64Bits}
 use Rattle.memory_claims.proofs.Request.{allocated-handed, requested-handed}
 
-module _ (m : AddressSpaceManager) (asked : OptionU32) (len : ℕ) (type : AllocationType) (policy : AllocationPolicy) (alignment : OptionU64)
+module _ (m : AddressSpaceManager) (asked : Option ℕ) (len : ℕ) (type : AllocationType) (policy : AllocationPolicy) (alignment : Option ℕ)
     (ram : List TaggedRange) (sound : Sound ram (entries_of m)) (bits : Of64Bits alignment) where
   -- the table is as found after a refusal, and else has the entries of the outcome
   outcome-keeps : (o : Outcome) → ((x : AllocatedRange) (es : List AddressRange) → o ≡ handed x es → Sound ram es)

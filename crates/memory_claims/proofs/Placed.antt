@@ -1,13 +1,11 @@
 -- What an entry that fits gives a request: a range that was free, and a table that is as sound as it was.
-use Rattle.std.specs.Prelude.{ℕ, ◌%◌, ◌<◌, ◌≡◌, true, List, ◌∷◌, ◌++◌}
+use Rattle.std.specs.Prelude.{ℕ, ◌%◌, ◌<◌, ◌≡◌, true, List, ◌∷◌, ◌++◌, Option}
 use Rattle.std.proofs.Common.{◌∙◌}
 use Rattle.memory_range.specs.declared.range.TaggedRange.{TaggedRange}
 use Rattle.memory_range.specs.Valid.{page_size}
 use Rattle.memory_range.specs.Laws.Range.{contains-between}
 use Rattle.host_params.specs.declared.AllocationPolicy.{AllocationPolicy}
 use Rattle.host_params.specs.declared.AllocationType.{AllocationType}
-use Rattle.host_params.specs.declared.OptionU32.{OptionU32}
-use Rattle.host_params.specs.declared.OptionU64.{OptionU64}
 use Rattle.address_space.specs.declared.request.AllocatedRange.{AllocatedRange}
 use Rattle.address_space.specs.declared.table.AddressRange.{AddressRange}
 use Rattle.address_space.specs.Fit.{fits_in}
@@ -20,7 +18,7 @@ use Rattle.memory_claims.specs.Laws.Placed.{placed-handed, outcome, fits-parts, 
 use Rattle.memory_claims.specs.Laws.Ram.{part_in-ram}
 use Rattle.memory_claims.specs.Laws.Split.{entry-valid, split-ordered, split-valid, split-all, split_was, split_now, split_others}
 
-module _ (asked : OptionU32) (len : ℕ) (type : AllocationType) (policy : AllocationPolicy) (alignment : OptionU64) where
+module _ (asked : Option ℕ) (len : ℕ) (type : AllocationType) (policy : AllocationPolicy) (alignment : Option ℕ) where
   module _ (pages : len % page_size ≡ 0) (some_bytes : 0 < len) (good : alignment_good alignment ≡ true) (bits : Of64Bits alignment) where
     -- an entry that fits gives a range, between those below it and those above it
     pub placed_claimed : (ram : List TaggedRange) (lower : List AddressRange) (e : AddressRange) (higher : List AddressRange) (x : AllocatedRange)

@@ -3,7 +3,7 @@
 -- first one that is broken.
 use Rattle.std.specs.Prelude.{ℕ, ◌+◌, ◌≤◌, ◌<◌, ◌≡◌, true, List, ◌∷◌, length}
 use Rattle.refusal.specs.Number.{range_invalid, ranges_not_ascending, ram_count_of, table_not_empty, reserved_count as reserved_count_number}
-use Rattle.refusal.specs.Number.{reserved_overlap, reserved_outside_used, pool_ranges, used_outside_ram}
+use Rattle.refusal.specs.Number.{reserved_overlap, reserved_outside_used, pool_ranges, used_outside_ram, number_of}
 use Rattle.refusal.specs.Rule.{KeptBelow, BrokenAt}
 use Rattle.memory_range.specs.declared.range.MemoryRange.{MemoryRange}
 use Rattle.memory_range.specs.declared.range.TaggedRange.{TaggedRange}
@@ -21,15 +21,15 @@ pub data BuildRow : Type 0 where
   row4 row5 row15 row16 row17 row18 row19 row20 row21 : BuildRow
 
 abbrev pub number : BuildRow → ℕ
-number row4 = range_invalid
-number row5 = ranges_not_ascending
-number row15 = ram_count_of
-number row16 = table_not_empty
-number row17 = reserved_count_number
-number row18 = reserved_overlap
-number row19 = reserved_outside_used
-number row20 = pool_ranges
-number row21 = used_outside_ram
+number row4 = number_of range_invalid
+number row5 = number_of ranges_not_ascending
+number row15 = number_of ram_count_of
+number row16 = number_of table_not_empty
+number row17 = number_of reserved_count_number
+number row18 = number_of reserved_overlap
+number row19 = number_of reserved_outside_used
+number row20 = number_of pool_ranges
+number row21 = number_of used_outside_ram
 
 -- for a table with so many entries
 module _ (b : AddressSpaceManagerBuilder) (entries : ℕ) (ram : List TaggedRange) (configs pools : List MemoryRange) where

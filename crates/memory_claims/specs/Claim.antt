@@ -1,6 +1,5 @@
 -- What is claimed of every table (docs/SPEC.md, section 25). `Sound` is what a build establishes and every request keeps.
-use Rattle.std.specs.Prelude.{ℕ, ◌^◌, ◌≤◌, ◌<◌, ◌≡◌, Bool, true, false, cond, List, [], ◌∷◌, ◌++◌, map, ◌⊎◌, length}
-use Rattle.std.proofs.Math.Option.{Option, none, some}
+use Rattle.std.specs.Prelude.{ℕ, ◌^◌, ◌≤◌, ◌<◌, ◌≡◌, Bool, true, false, cond, List, [], ◌∷◌, ◌++◌, map, ◌⊎◌, length, Option, Some, None}
 use Rattle.memory_range.specs.declared.range.MemoryRange.{MemoryRange}
 use Rattle.memory_range.specs.declared.range.TaggedRange.{TaggedRange}
 use Rattle.memory_range.specs.Bytes.{holders, Ordered, All}
@@ -11,9 +10,6 @@ use Rattle.memory_range.specs.Laws.Round.{Multiple}
 use Rattle.host_params.specs.declared.AllocationPolicy.{AllocationPolicy}
 use Rattle.host_params.specs.declared.AllocationPolicy.TheVariants.{LowMemory, HighMemory}
 use Rattle.host_params.specs.declared.AllocationType.{AllocationType}
-use Rattle.host_params.specs.declared.OptionU32.{OptionU32}
-use Rattle.host_params.specs.declared.OptionU64.{OptionU64}
-use Rattle.host_params.specs.declared.OptionU64.TheVariants as number
 use Rattle.boot_ram.specs.Held.{on_node, bytes_of}
 use Rattle.address_space.specs.declared.request.AllocatedRange.{AllocatedRange}
 use Rattle.address_space.specs.declared.table.AddressRange.{AddressRange}
@@ -43,13 +39,13 @@ note n u = record { node = n; usage = u }
 
 -- what the entry that holds the byte at a says of it
 abbrev pub note_at : List AddressRange → ℕ → Option Note
-note_at [] a = none
-note_at (e ∷ es) a = cond (holds e.range a) (some (note e.vnode e.usage)) (note_at es a)
+note_at [] a = None
+note_at (e ∷ es) a = cond (holds e.range a) (Some (note e.vnode e.usage)) (note_at es a)
 
 -- the tag of the range that holds the byte at a: in a RAM list its node
 abbrev pub tag_at : List TaggedRange → ℕ → Option ℕ
-tag_at [] a = none
-tag_at (x ∷ xs) a = cond (holds x.range a) (some x.tag) (tag_at xs a)
+tag_at [] a = None
+tag_at (x ∷ xs) a = cond (holds x.range a) (Some x.tag) (tag_at xs a)
 
 -- an entry lies in one RAM entry, of its node
 abbrev pub InRam : List TaggedRange → AddressRange → Type 0
@@ -74,20 +70,20 @@ pub record Sound (ram : List TaggedRange) (es : List AddressRange) : Type 0 wher
   pub count : length es ≤ max_address_ranges
 
 -- a range is aligned at the end that the policy names: a low one at its start, a high one at its end
-abbrev pub AlignedAt : AllocationPolicy → OptionU64 → MemoryRange → Type 0
-AlignedAt LowMemory (number.Some m) r = Multiple m r.start
-AlignedAt HighMemory (number.Some m) r = Multiple m r.end
-AlignedAt LowMemory number.None r = Unit {0}
-AlignedAt HighMemory number.None r = Unit {0}
+abbrev pub AlignedAt : AllocationPolicy → Option ℕ → MemoryRange → Type 0
+AlignedAt LowMemory (Some m) r = Multiple m r.start
+AlignedAt HighMemory (Some m) r = Multiple m r.end
+AlignedAt LowMemory None r = Unit {0}
+AlignedAt HighMemory None r = Unit {0}
 
 -- 64 bits hold the alignment, as they do every number of the code. Only the lowest 64 bits of a number are counted, so that a larger one
 -- may pass as a power of two and be none
-abbrev pub Of64Bits : OptionU64 → Type 0
-Of64Bits (number.Some m) = m < 2 ^ 64
-Of64Bits number.None = Unit {0}
+abbrev pub Of64Bits : Option ℕ → Type 0
+Of64Bits (Some m) = m < 2 ^ 64
+Of64Bits None = Unit {0}
 
 -- of a range of len bytes that was handed out from entries es, which left es'
-pub record Handed (asked : OptionU32) (len : ℕ) (type : AllocationType) (policy : AllocationPolicy) (alignment : OptionU64)
+pub record Handed (asked : Option ℕ) (len : ℕ) (type : AllocationType) (policy : AllocationPolicy) (alignment : Option ℕ)
     (es : List AddressRange) (x : AllocatedRange) (es' : List AddressRange) : Type 0 where
   -- it has that length, and starts and ends at a page
   pub length : length_of x.range ≡ len
@@ -96,15 +92,15 @@ pub record Handed (asked : OptionU32) (len : ℕ) (type : AllocationType) (polic
   pub node : on_asked_node asked x.vnode ≡ true
   pub aligned : AlignedAt policy alignment x.range
   -- each of its bytes was free, on its node, and is now used as the request says
-  pub was_free : (a : ℕ) → holds x.range a ≡ true → note_at es a ≡ some (note x.vnode Free)
-  pub now-used : (a : ℕ) → holds x.range a ≡ true → note_at es' a ≡ some (note x.vnode (usage_for type))
+  pub was_free : (a : ℕ) → holds x.range a ≡ true → note_at es a ≡ Some (note x.vnode Free)
+  pub now-used : (a : ℕ) → holds x.range a ≡ true → note_at es' a ≡ Some (note x.vnode (usage_for type))
   -- every other byte keeps its node and its usage
   pub others : (a : ℕ) → holds x.range a ≡ false → note_at es' a ≡ note_at es a
 
 -- what the ranges given to a build say of a byte: what the reserved or pool range that holds it is for, else used, else free
 abbrev pub said_by : Option ℕ → Bool → AddressUsage
-said_by (some t) used = usage_of t
-said_by none used = cond used Used Free
+said_by (Some t) used = usage_of t
+said_by None used = cond used Used Free
 
 abbrev pub usage_said : AddressSpaceManagerBuilder → List MemoryRange → List MemoryRange → ℕ → AddressUsage
 usage_said b configs pools a = said_by (tag_at (reserved_of b configs ++ all_as Vtl2GpaPool pools) a) (holds b.bootshim_used a)
@@ -118,4 +114,4 @@ pub record Built (b : AddressSpaceManagerBuilder) (ram : List TaggedRange) (conf
   pub sound : Sound ram es
   pub count : length es ≤ max_built
   -- each byte of the RAM is on its node, and used as the ranges given say
-  pub says : (n a : ℕ) → tag_at ram a ≡ some n → note_at es a ≡ some (note n (usage_said b configs pools a))
+  pub says : (n a : ℕ) → tag_at ram a ≡ Some n → note_at es a ≡ Some (note n (usage_said b configs pools a))

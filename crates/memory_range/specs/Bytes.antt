@@ -1,7 +1,6 @@
 -- What a list of ranges says of each byte: how many of its items hold it, and which; and lists in
 -- order. The laws of the functions are stated by these (docs/SPEC.md, section 2).
-use Rattle.std.specs.Prelude.{ℕ, ◌+◌, ◌≤◌, ◌<◌, cond, List, [], ◌∷◌}
-use Rattle.std.proofs.Math.Option.{Option, none, some}
+use Rattle.std.specs.Prelude.{ℕ, ◌+◌, ◌≤◌, ◌<◌, cond, List, [], ◌∷◌, Option, Some, None}
 use Rattle.memory_range.specs.declared.range.MemoryRange.{MemoryRange}
 use Rattle.memory_range.specs.Range.{length_of, holds}
 
@@ -17,8 +16,8 @@ byte_count (r ∷ rs) = length_of r + byte_count rs
 
 -- which item holds the byte at a, the first one if there are several; items are counted from k
 abbrev pub item_found_from : ℕ → List MemoryRange → ℕ → Option ℕ
-item_found_from k [] a = none
-item_found_from k (r ∷ rs) a = cond (holds r a) (some k) (item_found_from (k + 1) rs a)
+item_found_from k [] a = None
+item_found_from k (r ∷ rs) a = cond (holds r a) (Some k) (item_found_from (k + 1) rs a)
 
 abbrev pub item_at : List MemoryRange → ℕ → Option ℕ
 item_at rs a = item_found_from 0 rs a

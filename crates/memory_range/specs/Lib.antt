@@ -6,3 +6,4 @@ pub mod Align
 pub mod Power
 pub mod Valid
 pub mod Laws
+pub mod HasRange

@@ -16,13 +16,11 @@ impl MemoryRange {
         }
         let more = padding(self.start, alignment);
         let end = self.end - self.end % alignment;
-        if self.start < end {
-            if more < end - self.start {
-                return MemoryRange {
-                    start: self.start + more,
-                    end,
-                };
-            }
+        if self.start < end && more < end - self.start {
+            return MemoryRange {
+                start: self.start + more,
+                end,
+            };
         }
         MemoryRange { start: 0, end: 0 }
     }

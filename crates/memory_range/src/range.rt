@@ -1,18 +1,17 @@
 // One range, and two ranges.
 ghost use Rattle.std.specs.Prelude.{◌≡◌};
-ghost use Prim.Native.Nat as nat;
 ghost use Rattle.memory_range.specs.Range.{length_of, contains_range, overlap_ranges, split_range_at};
 
 // The addresses from start up to end, end excluded. A range whose start is not below its end holds
 // no byte.
-#[derive(Clone, Copy)]
+#[derive(Clone, Copy, Default, PartialEq, Eq)]
 pub struct MemoryRange {
     pub start: u64,
     pub end: u64,
 }
 
 // A range with a number that goes with it: a node, or a type.
-#[derive(Clone, Copy)]
+#[derive(Clone, Copy, Default, PartialEq, Eq)]
 pub struct TaggedRange {
     pub range: MemoryRange,
     pub tag: u32,
@@ -25,44 +24,28 @@ pub struct SplitRange {
     pub right: MemoryRange,
 }
 
-pub(crate) fn lower(a: u64, b: u64) -> u64
-    ensures { result ≡ nat.min a b }
-{
-    if a <= b { a } else { b }
-}
-
-pub(crate) fn higher(a: u64, b: u64) -> u64
-    ensures { result ≡ nat.max a b }
-{
-    if a <= b { b } else { a }
-}
-
 impl MemoryRange {
     // The number of bytes.
     pub fn len(self) -> u64
         ensures { result ≡ length_of self }
     {
-        if self.start <= self.end {
-            return self.end - self.start;
-        }
-        0
+        self.end.saturating_sub(self.start)
     }
 
     // Whether every byte of other is a byte of self.
+    #[tactic(auto, unfolding(crate::specs::Range::contains_range))]
     pub fn contains(self, other: MemoryRange) -> bool
         ensures { result ≡ contains_range self other }
     {
-        if other.end <= other.start {
-            return true;
-        }
-        self.start <= other.start && other.end <= self.end
+        other.end <= other.start || (self.start <= other.start && other.end <= self.end)
     }
 
     // Whether some byte is in both.
+    #[tactic(auto, unfolding(crate::specs::Range::overlap_ranges))]
     pub fn overlaps(self, other: MemoryRange) -> bool
         ensures { result ≡ overlap_ranges self other }
     {
-        higher(self.start, other.start) < lower(self.end, other.end)
+        self.start.max(other.start) < self.end.min(other.end)
     }
 
     // The first offset bytes, and the rest. An offset past the end gives the whole range, and
@@ -70,7 +53,7 @@ impl MemoryRange {
     pub fn split_at_offset(self, offset: u64) -> SplitRange
         ensures { result ≡ split_range_at self offset }
     {
-        let at = self.start + lower(offset, self.len());
+        let at = self.start + offset.min(self.len());
         SplitRange {
             left: MemoryRange {
                 start: self.start,

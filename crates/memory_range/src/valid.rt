@@ -1,8 +1,8 @@
 // The checks that every list of ranges passes before it is used.
-ghost use Rattle.std.specs.Prelude.{◌≡◌};
+ghost use Rattle.std.specs.Prelude.{◌≡◌, map};
 ghost use Rattle.memory_range.specs.Valid.{valid_range, all_valid_of, ascend};
-ghost use Rattle.memory_range.specs.List.{ranges_of};
 
+use super::has_range::HasRange;
 use super::range::MemoryRange;
 
 pub const PAGE_SIZE: u64 = 4096;
@@ -13,47 +13,29 @@ impl MemoryRange {
     pub fn is_valid(self) -> bool
         ensures { result ≡ valid_range self }
     {
-        self.start < self.end && (self.start % PAGE_SIZE == 0 && self.end % PAGE_SIZE == 0)
+        self.start < self.end && self.start % PAGE_SIZE == 0 && self.end % PAGE_SIZE == 0
     }
 }
 
 // Whether every range of the list is valid.
-pub fn ranges_valid<'a>(starts: &'a [u64], ends: &'a [u64]) -> bool
-    ensures { result ≡ all_valid_of (ranges_of starts.now ends.now) }
+pub fn ranges_valid<R: HasRange + Copy>(list: &[R]) -> bool
+    ensures { result ≡ all_valid_of (map R.range_in list.now) }
 {
-    let mut i = 0;
-    while i < starts.len() {
-        if ends.len() <= i {
-            return true;
-        }
-        let range = MemoryRange {
-            start: starts[i],
-            end: ends[i],
-        };
-        if !range.is_valid() {
-            return false;
-        }
-        i += 1;
-    }
-    true
+    list.iter().all(|item| item.range().is_valid())
 }
 
 // Refusal 5 is given where this is false: each range starts at or above the end of the one before
 // it, so that valid ranges ascend and are disjoint. Touching is allowed.
-pub fn ranges_ascend<'a>(starts: &'a [u64], ends: &'a [u64]) -> bool
-    ensures { result ≡ ascend (ranges_of starts.now ends.now) }
+pub fn ranges_ascend<R: HasRange + Copy>(list: &[R]) -> bool
+    ensures { result ≡ ascend (map R.range_in list.now) }
 {
     let mut above: u64 = 0;
-    let mut i = 0;
-    while i < starts.len() {
-        if ends.len() <= i {
-            return true;
-        }
-        if starts[i] < above {
+    for item in list {
+        let range = item.range();
+        if range.start < above {
             return false;
         }
-        above = ends[i];
-        i += 1;
+        above = range.end;
     }
     true
 }

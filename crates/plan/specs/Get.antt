@@ -1,16 +1,14 @@
 -- The requests of a plan, each answered on the table that the last one left (docs/SPEC.md, section 29).
-use Rattle.std.specs.Prelude.{ℕ, List, [], ◌∷◌}
-use Rattle.address_space.specs.declared.request.Allocated.{Allocated}
-use Rattle.address_space.specs.declared.request.Allocated.TheVariants as allocated
+use Rattle.std.specs.Prelude.{ℕ, List, [], ◌∷◌, Option, Some, None, Result, Ok, Err}
+use Rattle.address_space.specs.declared.request.AllocatedRange.{AllocatedRange}
 use Rattle.address_space.specs.declared.table.AddressRange.{AddressRange}
 use Rattle.address_space.specs.Request.{Outcome, refused, handed, requested}
 use Rattle.plan_record.specs.declared.record.Get.{Get}
 use Rattle.plan_input.specs.Input.{gets_first}
 use Rattle.plan_input.specs.Record.{records_at}
-use Rattle.plan.specs.declared.get.GetStep.{GetStep}
-use Rattle.plan.specs.declared.get.GetStep.TheVariants as step
 use Rattle.plan.specs.declared.line.OutputLine.{OutputLine}
 use Rattle.plan.specs.declared.line.OutputLine.TheVariants.{Got, No}
+use Rattle.refusal.specs.declared.Refusal.{Refusal}
 
 -- what a request comes to on a table with these entries
 abbrev pub outcome_on : Get → List AddressRange → Outcome
@@ -35,15 +33,15 @@ after_gets [] es = es
 after_gets (g ∷ gs) es = after_gets gs (left_by es (outcome_on g es))
 
 -- the line of an answer
-abbrev pub answer_line : Allocated → OutputLine
-answer_line (allocated.Range x) = Got x.range x.vnode
-answer_line (allocated.Refused n) = No n
+abbrev pub answer_line : Result AllocatedRange Refusal → OutputLine
+answer_line (Ok x) = Got x.range x.vnode
+answer_line (Err n) = No n
 
 -- a step through the requests: of a record that holds one, and what a step's answer stands for
-abbrev pub get_step : List Get → ℕ → GetStep
-get_step [] next = step.End
-get_step (g ∷ gs) next = step.Get g next
+abbrev pub get_step : List Get → ℕ → Option (Get × ℕ)
+get_step [] next = None
+get_step (g ∷ gs) next = Some (g, next)
 
-abbrev pub get_stepped : List ℕ → GetStep → List Get
-get_stepped text (step.Get g next) = g ∷ gets_first (records_at text next)
-get_stepped text step.End = []
+abbrev pub get_stepped : List ℕ → Option (Get × ℕ) → List Get
+get_stepped text (Some (g, next)) = g ∷ gets_first (records_at text next)
+get_stepped text None = []

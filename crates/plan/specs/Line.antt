@@ -1,5 +1,6 @@
 -- The lines of a plan as bytes (docs/SPEC.md, section 29).
 use Rattle.std.specs.Prelude.{ℕ, ◌+◌, ◌*◌, ◌≤◌, ◌≡◌, List, [], ◌∷◌, ◌++◌, length}
+use Rattle.refusal.specs.Number.{number_of}
 use Rattle.plan_output.specs.Line.{ram_line, pool_line, got_line, no_line, map_line}
 use Rattle.plan_output.specs.Put.{put_at}
 use Rattle.plan.specs.declared.line.OutputLine.{OutputLine}
@@ -10,7 +11,7 @@ abbrev pub line_bytes : OutputLine → List ℕ
 line_bytes (Ram r node) = ram_line r node
 line_bytes (Pool r node) = pool_line r node
 line_bytes (Got r node) = got_line r node
-line_bytes (No refusal) = no_line refusal
+line_bytes (No r) = no_line (number_of r)
 line_bytes (Map r type) = map_line r type
 
 abbrev pub lines_bytes : List OutputLine → List ℕ

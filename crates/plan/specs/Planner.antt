@@ -1,6 +1,5 @@
 -- The plan of a text, from its bytes to the bytes of the output (docs/SPEC.md, section 29; document 01, "The plan text").
-use Rattle.std.specs.Prelude.{ℕ, ◌+◌, ◌*◌, ◌/◌, ◌≤◌, min, ◌≡◌, Bool, not, ◌&&◌, cond, List, [], ◌∷◌, ◌++◌, ltb, length, take}
-use Rattle.std.proofs.Math.Option.{Option, none, some}
+use Rattle.std.specs.Prelude.{ℕ, ◌+◌, ◌*◌, ◌/◌, min, ◌≡◌, Bool, not, ◌&&◌, cond, List, [], ◌∷◌, ◌++◌, ltb, length, take, Option, Some, None, Result, Ok, Err}
 use Rattle.refusal.specs.Number.{range_invalid, ranges_not_ascending}
 use Rattle.refusal.specs.Rows.{refused_if, downward, unless}
 use Rattle.memory_range.specs.declared.range.MemoryRange.{MemoryRange}
@@ -9,9 +8,7 @@ use Rattle.memory_range.specs.Valid.{all_valid_of, ascend}
 use Rattle.host_params.specs.declared.IsolationType.{IsolationType}
 use Rattle.host_params.specs.declared.MemoryEntry.{MemoryEntry}
 use Rattle.boot_ram.specs.Held.{bytes_of}
-use Rattle.boot_ram.specs.Verdict.{max_chosen}
 use Rattle.vtl2_ram.specs.declared.ram.Vtl2Ram.{Vtl2Ram}
-use Rattle.vtl2_ram.specs.Ram.{ram_as}
 use Rattle.vtl2_ram.specs.Choice.{Choice, chosen}
 use Rattle.vtl2_ram.specs.Choice as choice-of
 use Rattle.host_map.specs.Map.{map_ranges}
@@ -24,8 +21,6 @@ use Rattle.memory.specs.Build as build-of
 use Rattle.plan_record.specs.declared.record.Get.{Get}
 use Rattle.plan_record.specs.declared.record.Pool.{Pool}
 use Rattle.plan_record.specs.declared.record.Record.{Record}
-use Rattle.plan_text.specs.declared.text.TextCheck.{TextCheck}
-use Rattle.plan_text.specs.declared.text.TextCheck.TheVariants as text
 use Rattle.plan_text.specs.Text.{text_check, records_of, text_size}
 use Rattle.plan_input.specs.declared.build.BuildRead.{BuildRead}
 use Rattle.plan_input.specs.declared.once.PoolRead.{PoolRead}
@@ -40,18 +35,17 @@ use Rattle.plan_output.specs.Line.{written}
 use Rattle.private_pool.specs.Pool.{Placement, placed}
 use Rattle.private_pool.specs.Pool as placement
 use Rattle.plan.specs.declared.line.OutputLine.{OutputLine}
-use Rattle.plan.specs.declared.planner.Planned.{Planned}
-use Rattle.plan.specs.declared.planner.Planned.TheVariants.{Written, Refused}
-use Rattle.plan.specs.declared.planner.PlannedTo.{PlannedTo}
-use Rattle.plan.specs.declared.planner.PlannedTo.TheVariants as to
+use Rattle.plan.specs.declared.planner.PlanError.{PlanError}
+use Rattle.plan.specs.declared.planner.PlanError.TheVariants as error
 use Rattle.plan.specs.Line.{lines_bytes, line_size}
 use Rattle.plan.specs.Write.{ram_lines, pool_lines, map_lines}
 use Rattle.plan.specs.Get.{get_lines, after_gets}
 use Rattle.plan.specs.Pool.{pages_wanted, placed_for}
+use Rattle.refusal.specs.declared.Refusal.{Refusal}
 
--- what a text comes to: a refusal's number, or the lines of its plan
+-- what a text comes to: a refusal, or the lines of its plan
 pub data Plan : Type 0 where
-  refused : ℕ → Plan
+  refused : Refusal → Plan
   lines : List OutputLine → Plan
 
 -- the RAM, the pool's ranges, a line for each request, and the table that the last request leaves
@@ -75,7 +69,7 @@ after_choice isolation pool builder gets configs pools (choice-of.refused n) = r
 after_choice isolation pool builder gets configs pools (chosen ram) = after_build isolation pool ram gets (build builder 0 ram configs pools)
 
 -- row 4 over all ranges of the text, then row 5 over the map and the imported ranges
-unfoldable pub ranges_refusal : List Record → Option ℕ
+unfoldable pub ranges_refusal : List Record → Option Refusal
 ranges_refusal rs =
     let i = input_of rs in
     downward
@@ -95,21 +89,21 @@ records_plan rs = unless refused (ranges_refusal rs) (selected_plan (input_of rs
 
 -- the records of a text that is accepted
 abbrev pub records_given : Option (List Record) → List Record
-records_given none = []
-records_given (some rs) = rs
+records_given None = []
+records_given (Some rs) = rs
 
-abbrev pub checked_plan : TextCheck → List Record → Plan
-checked_plan (text.Refused n) rs = refused n
-checked_plan text.Accepted rs = records_plan rs
+abbrev pub checked_plan : Result (Unit {0}) Refusal → List Record → Plan
+checked_plan (Err n) rs = refused n
+checked_plan (Ok done) rs = records_plan rs
 
 -- the plan of a text: rows 3, 1 and 2, and then the plan of its records
 unfoldable pub plan_of : List ℕ → Plan
 plan_of bytes = checked_plan (text_check bytes) (records_given (records_of bytes))
 
--- the answer: a refusal's number, or how many bytes are written
-abbrev pub planned_as : Plan → Planned
-planned_as (refused n) = Refused n
-planned_as (lines ls) = Written (length (lines_bytes ls))
+-- the answer: a refusal, or how many bytes are written
+abbrev pub planned_as : Plan → Result ℕ Refusal
+planned_as (refused n) = Err n
+planned_as (lines ls) = Ok (length (lines_bytes ls))
 
 -- the output afterwards: as found where refused, else the lines at its start and behind them as found
 abbrev pub output_as : Plan → List ℕ → List ℕ
@@ -117,7 +111,7 @@ output_as (refused n) output = output
 output_as (lines ls) output = written (lines_bytes ls) output
 
 -- both of them
-pub record Answers (p : Plan) (before after : List ℕ) (r : Planned) : Type 0 where
+pub record Answers (p : Plan) (before after : List ℕ) (r : Result ℕ Refusal) : Type 0 where
   pub answer : r ≡ planned_as p
   pub output : after ≡ output_as p before
 
@@ -131,7 +125,7 @@ build_given bytes = build_in (selection_given bytes).rest
 -- all that is read of an accepted text before its requests: of its lists as much as there is room for
 pub record TextRead (bytes : List ℕ) (read : SelectionRead) (build : BuildRead) (pool : PoolRead) (map : List MemoryEntry)
     (imports configs pools : List MemoryRange) : Type 0 where
-  pub accepted : text_check bytes ≡ text.Accepted
+  pub accepted : text_check bytes ≡ Ok tt
   pub selection : SelectionHeld bytes (selection_given bytes) read
   pub building : BuildHeld bytes (build_given bytes) build
   pub pool-first : pool.pool ≡ pool_first (build_given bytes).rest
@@ -145,13 +139,11 @@ pub record TextRead (bytes : List ℕ) (read : SelectionRead) (build : BuildRead
 abbrev pub choice_of : SelectionIn → Choice
 choice_of s = choice s.shape.mode s.shape.isolation s.shape.memory_size s.file (take map_room s.map) (take import_room s.imports)
 
--- a selection's answer in the course of a plan: it holds what selection comes to, and the plan is what comes after that
+-- a selection's answer in the course of a plan: its bytes are those of its entries, and the plan is what comes after their choice
 pub record Selected (bytes : List ℕ) (isolation : IsolationType) (pool : Pool) (builder : AddressSpaceManagerBuilder) (gets : List Get)
     (configs pools : List MemoryRange) (ram : Vtl2Ram) : Type 0 where
-  pub selection : Choice
-  pub held : ram ≡ ram_as selection
-  pub few : length (choice-of.entries_of selection) ≤ max_chosen
-  pub plan : plan_of bytes ≡ after_choice isolation pool builder gets configs pools selection
+  pub total : ram.bytes ≡ bytes_of ram.entries.items
+  pub plan : plan_of bytes ≡ after_choice isolation pool builder gets configs pools (chosen ram.entries.items)
 
 -- the bytes of the shortest request: `get`, five fields of a byte, and the byte behind each of the six
 abbrev pub shortest_get : ℕ
@@ -169,14 +161,14 @@ output_size_for size = most_lines (min size text_size) * line_size
 abbrev pub too_short_of : List ℕ → List ℕ → Bool
 too_short_of bytes output = ltb (length output) (output_size_for (length bytes))
 
--- the plan's answer as one of three
-abbrev pub answer_to : Planned → PlannedTo
-answer_to (Refused n) = to.Refused n
-answer_to (Written n) = to.Written n
+-- the plan's answer where there may be another error
+abbrev pub answer_to : Result ℕ Refusal → Result ℕ PlanError
+answer_to (Err r) = Err (error.Refused r)
+answer_to (Ok n) = Ok n
 
 -- the answer where the output may be too short: that it is, or the plan's
-abbrev pub planned_to : List ℕ → List ℕ → PlannedTo
-planned_to bytes output = cond (too_short_of bytes output) to.NoRoom (answer_to (planned_as (plan_of bytes)))
+abbrev pub planned_to : List ℕ → List ℕ → Result ℕ PlanError
+planned_to bytes output = cond (too_short_of bytes output) (Err error.NoRoom) (answer_to (planned_as (plan_of bytes)))
 
 -- the output afterwards: as found where it is too short, else as the plan leaves it
 abbrev pub output_to : List ℕ → List ℕ → List ℕ

@@ -9,4 +9,4 @@ mod pool;
 mod write;
 
 pub use line::OutputLine;
-pub use planner::{OUTPUT_SIZE, Planned, PlannedTo, output_size, plan, plan_to};
+pub use planner::{OUTPUT_SIZE, PlanError, output_size, plan, plan_to};

@@ -1,7 +1,6 @@
 -- Of every text whose plan has lines the claim holds.
-use Rattle.std.specs.Prelude.{ℕ, ◌≡◌, refl, Bool, true, ◌||◌, List, [], ◌∷◌, ◌++◌, length, drop}
+use Rattle.std.specs.Prelude.{ℕ, ◌≡◌, refl, Bool, true, ◌||◌, List, [], ◌∷◌, ◌++◌, length, drop, Option, Some, None}
 use Rattle.std.proofs.Common.{ap, sym, ◌∙◌, append_assoc}
-use Rattle.std.proofs.Math.Option.{Option, none, some}
 use Rattle.std.proofs.Math.Seq.{take-append_seam}
 use Rattle.memory_range.specs.declared.range.TaggedRange.{TaggedRange}
 use Rattle.memory_range.specs.Bytes.{All}
@@ -76,11 +75,11 @@ pool-lines pages split s xs es = ap pool_lines (take-append_seam xs (drop (lengt
 calls_ran : (wanted : Option ℕ) (split : Bool) (gets : List Get) (bits : GetsBits gets) (s : AddressSpaceManager) (l : Ledger)
     (xs : List AllocatedRange) (es : List AddressRange) → placed_for wanted split (entries_of s) ≡ placed xs es
     → Ran (pool_then wanted split (requests_of gets bits)) s l (pool_lines xs ++ get_lines gets es) (after_gets gets es)
-calls_ran none split gets bits s l xs es e =
+calls_ran None split gets bits s l xs es e =
     let no-ranges : [] ≡ xs = cc in
     let as-found : entries_of s ≡ es = cc in
     rw (← no-ranges, ← as-found) (requests_ran gets bits s l)
-calls_ran (some pages) split gets bits s l xs es e =
+calls_ran (Some pages) split gets bits s l xs es e =
     let a = answered planner (pool pages split) s in
     let left : entries_of a.state ≡ es = rw e (entries_with s es true) in
     ran_then (pool pages split) (requests_of gets bits) s l (pool_lines xs) (get_lines gets es) (after_gets gets es) (rw e tt)

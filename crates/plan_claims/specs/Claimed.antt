@@ -1,13 +1,11 @@
 -- A plan as a run of calls (docs/SPEC.md, section 30): what a text asks for as calls of the claim, the lines of their answers, and what is claimed of
 -- the text and its plan.
-use Rattle.std.specs.Prelude.{ℕ, ◌≡◌, Bool, List, [], ◌∷◌, ◌++◌, map}
-use Rattle.std.proofs.Math.Option.{Option, none, some}
+use Rattle.std.specs.Prelude.{ℕ, ◌≡◌, Bool, List, [], ◌∷◌, ◌++◌, map, Option, Some, None, Ok, Err}
 use Rattle.memory_range.specs.declared.range.TaggedRange.{TaggedRange}
 use Rattle.memory_range.specs.Bytes.{All}
 use Rattle.boot_ram.specs.Held.{bytes_of}
 use Rattle.vtl2_ram.specs.Choice.{chosen}
 use Rattle.vtl2_ram.specs.Select.{choice}
-use Rattle.address_space.specs.declared.request.Allocated.TheVariants as allocated
 use Rattle.address_space.specs.declared.request.AllocatedRange.{AllocatedRange}
 use Rattle.address_space.specs.declared.table.AddressRange.{AddressRange}
 use Rattle.memory_claims.specs.Claim.{Of64Bits}
@@ -47,8 +45,8 @@ requests_of (g ∷ gets) bits = request (request_of g bits.0) ∷ requests_of ge
 
 -- the placement of a pool of so many pages in front of other calls, if one is wanted
 abbrev pub pool_then : Option ℕ → Bool → List Call → List Call
-pool_then none split calls = calls
-pool_then (some pages) split calls = pool pages split ∷ calls
+pool_then None split calls = calls
+pool_then (Some pages) split calls = pool pages split ∷ calls
 
 -- what a text asks for, over the chosen RAM: the pool first, if one is wanted, and then its requests
 abbrev pub calls_of : (i : Input) → List TaggedRange → GetsBits i.gets → List Call
@@ -56,10 +54,10 @@ calls_of i ram bits = pool_then (pages_wanted i.shape.isolation i.pool (bytes_of
 
 -- the lines of an answer: a line for each range of a pool; a line for a request, its range or its refusal
 abbrev pub got_lines : List AllocatedRange → List OutputLine
-got_lines = map (λ x. answer_line (allocated.Range x))
+got_lines = map (λ x. answer_line (Ok x))
 
 abbrev pub answer_lines : Call → Answer → List OutputLine
-answer_lines (request r) (refused n) = answer_line (allocated.Refused n) ∷ []
+answer_lines (request r) (refused n) = answer_line (Err n) ∷ []
 answer_lines (request r) (gave xs) = got_lines xs
 answer_lines (pool pages split) (refused n) = []
 answer_lines (pool pages split) (gave xs) = pool_lines xs
@@ -86,7 +84,7 @@ last_of i ram bits s = last_table planner i.builder ram i.configs i.gpools (call
 pub record PlanClaimed (text : List ℕ) (ls : List OutputLine) : Type 0 where
   -- the records of the text, and what they give
   pub records : List Record
-  pub read : records_of text ≡ some records
+  pub read : records_of text ≡ Some records
   pub input : Input
   pub given : input ≡ input_of records
   pub bits : GetsBits input.gets
@@ -95,7 +93,7 @@ pub record PlanClaimed (text : List ℕ) (ls : List OutputLine) : Type 0 where
   pub selected : choice input.shape.mode input.shape.isolation input.shape.memory_size input.file input.map input.imports
       ≡ chosen ram
   pub state : planner.State
-  pub builds : planner.build input.builder ram input.configs input.gpools ≡ some state
+  pub builds : planner.build input.builder ram input.configs input.gpools ≡ Some state
   -- demand 3, from the map to the table after the calls
   pub claimed :
       Planned planner input.shape.mode input.shape.isolation input.shape.memory_size input.file input.map input.imports ram

@@ -1,7 +1,6 @@
 -- Bytes cut at a separator (docs/SPEC.md, section 10). Lines of a text are parted by newlines, fields of
 -- a line by tabs.
-use Rattle.std.specs.Prelude.{ℕ, cond, List, [], ◌∷◌, ◌++◌, eqb, ltb, length}
-use Rattle.std.proofs.Math.Option.{Option, none, some}
+use Rattle.std.specs.Prelude.{ℕ, cond, List, [], ◌∷◌, ◌++◌, eqb, ltb, length, Option, Some, None}
 use Rattle.plan_fields.specs.Word.{after}
 
 abbrev pub tab : ℕ
@@ -34,4 +33,4 @@ join_with c (p ∷ q ∷ ps) = p ++ c ∷ join_with c (q ∷ ps)
 -- what the first of several fields stands for, and the length of that field; none, where it is the only one
 unfoldable pub first_of : {A : Type 0} → (List ℕ → Option A) → List ℕ → Option (A × ℕ)
 first_of of bs =
-    cond (ltb (length (first_part tab bs)) (length bs)) (after (of (first_part tab bs)) (λ v. some (v, length (first_part tab bs)))) none
+    cond (ltb (length (first_part tab bs)) (length bs)) (after (of (first_part tab bs)) (λ v. Some (v, length (first_part tab bs)))) None

@@ -9,6 +9,7 @@ pub const NEWLINE: u8 = 10;
 
 // The bytes in front of the first separator: all of them, where there is none. A turn of the loop looks
 // at two bytes, since its own test costs as much as that of a byte.
+#[tactic(auto, using(crate::proofs::cut::Laws::cuts))]
 pub fn first_part(bytes: &[u8], separator: u8) -> &[u8]
     ensures { result.now ≡ first_part separator bytes.now }
 {
@@ -22,10 +23,7 @@ pub fn first_part(bytes: &[u8], separator: u8) -> &[u8]
         }
         end += 2;
     }
-    if end == bytes.len() {
-        return bytes;
-    }
-    if bytes[end] == separator {
+    if end < bytes.len() && bytes[end] == separator {
         return &bytes[..end];
     }
     bytes
@@ -46,13 +44,5 @@ pub fn later_parts(bytes: &[u8], first: usize) -> &[u8]
 pub fn part_count(bytes: &[u8], separator: u8) -> usize
     ensures { result ≡ length (split_on separator bytes.now) }
 {
-    let mut count = 1;
-    let mut at = 0;
-    while at < bytes.len() {
-        if bytes[at] == separator {
-            count += 1;
-        }
-        at += 1;
-    }
-    count
+    1 + bytes.iter().filter(|b| **b == separator).count()
 }

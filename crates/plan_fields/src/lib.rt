@@ -6,5 +6,5 @@ mod number;
 mod word;
 
 pub use cut::{NEWLINE, TAB, first_part, later_parts, part_count};
-pub use number::{NumberField, NumberPart, first_number, read_number};
-pub use word::same_bytes;
+pub use number::{first_number, read_number};
+pub use word::{same_bytes, word_value};

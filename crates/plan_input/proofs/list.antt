@@ -1,2 +1,2 @@
--- The proofs of `list`.
+-- Laws for the proofs of lists.
 pub mod Laws

@@ -1,9 +1,8 @@
 -- What the build is given by records of a text, from the first on (docs/SPEC.md, section 28).
-use Rattle.std.specs.Prelude.{ℕ, ◌≡◌, ◌&&◌, List, length}
+use Rattle.std.specs.Prelude.{ℕ, ◌≡◌, ◌&&◌, List, length, Option}
 use Rattle.memory_range.specs.declared.range.MemoryRange.{MemoryRange}
 use Rattle.memory_range.specs.Valid.{all_valid_of}
 use Rattle.memory.specs.declared.builder.AddressSpaceManagerBuilder.{AddressSpaceManagerBuilder}
-use Rattle.memory.specs.declared.builder.OptionRange.{OptionRange}
 use Rattle.memory.specs.Builder.{singles_valid}
 use Rattle.plan_record.specs.declared.record.Record.{Record}
 use Rattle.plan_input.specs.declared.build.BuildRead.{BuildRead}
@@ -12,7 +11,7 @@ use Rattle.plan_input.specs.Word.{behind_word, behind_words}
 use Rattle.plan_input.specs.Range.{range_first, ranges_first, or_empty}
 
 -- the builder of the single ranges, of which two are to be there
-abbrev pub builder_of : OptionRange → OptionRange → OptionRange → OptionRange → OptionRange → OptionRange → AddressSpaceManagerBuilder
+abbrev pub builder_of : Option MemoryRange → Option MemoryRange → Option MemoryRange → Option MemoryRange → Option MemoryRange → Option MemoryRange → AddressSpaceManagerBuilder
 builder_of used state keep side tables log =
     record {
       bootshim_used = or_empty used;

@@ -1,8 +1,7 @@
 -- The two records that hold neither a range nor an entry of the map, and stand once (docs/SPEC.md, section 28).
-use Rattle.std.specs.Prelude.{false, List, [], ◌∷◌}
+use Rattle.std.specs.Prelude.{false, List, [], ◌∷◌, None}
 use Rattle.host_params.specs.declared.IsolationType.TheVariants as isolation
 use Rattle.host_params.specs.declared.MemoryAllocationMode.TheVariants.{Host}
-use Rattle.host_params.specs.declared.OptionU64.TheVariants as number
 use Rattle.host_params.specs.declared.Vtl2GpaPoolConfig.TheVariants.{Off}
 use Rattle.plan_record.specs.declared.record.Pool.{Pool}
 use Rattle.plan_record.specs.declared.record.Record.{Record}
@@ -16,10 +15,10 @@ first_or d (x ∷ xs) = x
 
 -- in the place of a shape, and of a pool, that is not there
 abbrev pub no_shape : Shape
-no_shape = record { mode = Host; isolation = isolation.None; memory_size = number.None }
+no_shape = record { mode = Host; isolation = isolation.None; memory_size = None }
 
 abbrev pub no_pool : Pool
-no_pool = record { config = Off; host_pages = number.None; processors = 0; split = false }
+no_pool = record { config = Off; host_pages = None; processors = 0; split = false }
 
 -- what the first record holds
 abbrev pub shape_first : List Record → Shape

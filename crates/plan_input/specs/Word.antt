@@ -1,16 +1,14 @@
 -- Records by the place of their word among the fourteen words, from the first of a list of records on (docs/SPEC.md, section 28).
-use Rattle.std.specs.Prelude.{ℕ, Bool, cond, List, [], ◌∷◌, eqb}
+use Rattle.std.specs.Prelude.{ℕ, Bool, cond, List, [], ◌∷◌, eqb, Option, Some, None}
 use Rattle.plan_record.specs.declared.record.Record.{Record}
 use Rattle.plan_text.specs.Order.{place_of}
-use Rattle.plan_input.specs.declared.word.OptionRecord.{OptionRecord}
-use Rattle.plan_input.specs.declared.word.OptionRecord.TheVariants.{Some, None}
 
 -- whether a record's word is at place k
 abbrev pub of_word : ℕ → Record → Bool
 of_word k r = eqb (place_of r) k
 
 -- the first record, if its word is at place k, and the records behind it
-abbrev pub word_first : ℕ → List Record → OptionRecord
+abbrev pub word_first : ℕ → List Record → Option Record
 word_first k [] = None
 word_first k (r ∷ rs) = cond (of_word k r) (Some r) None
 

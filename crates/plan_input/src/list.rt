@@ -1,120 +1,70 @@
 // Lists: the records of one word that follow one another. What a list has no room for is counted and
 // looked at, and not stored.
-ghost use Rattle.std.specs.Prelude.{◌≡◌, length};
+ghost use Rattle.std.specs.Prelude.{◌≡◌, length, map};
 ghost use Rattle.std.proofs.lemmas.List.Edits.{sets};
-ghost use Rattle.host_map.specs.Map.{map_ranges, map_starts_of, map_ends_of, map_nodes_of, map_protectable_of};
-ghost use Rattle.plan_input.specs.Record.{records_at, SameCheck};
-ghost use Rattle.plan_input.specs.Word.{behind_words};
-ghost use Rattle.plan_input.specs.Range.{ranges_first, starts_in, ends_in};
-ghost use Rattle.plan_input.specs.Entry.{entries_first};
+ghost use Rattle.plan_input.specs.Record.{records_at, Moved};
+ghost use Rattle.plan_input.specs.Word.{words_first, behind_words};
+ghost use Rattle.plan_input.specs.Range.{range_in};
+ghost use Rattle.plan_input.specs.Entry.{entry_in};
 ghost use Rattle.host_map.specs.Rows.{check_start, checked_all};
 
-use crate::entry::{MEM, entry_in};
+use crate::entry::entry_in;
 use crate::range::range_in;
-use crate::word::{OptionRecord, read_word};
-use host_map::{RangeCheck, put_entry};
-use memory_range::put_address;
+use crate::word::Cursor;
+use host_map::RangeCheck;
+use host_params::MemoryEntry;
+use memory_range::{HasRange, MemoryRange, put};
+use plan_record::Record;
 
-// How many there are, rows 4 and 5 of them, the place behind them, and the order that they leave.
+// What the records of a word hold: an item each.
+pub(crate) trait Item: HasRange + Copy {
+    ghost use Rattle.plan_record.specs.declared.record.Record.{Record};
+
+    ghost item_of: { Record → Self };
+
+    fn item_of(record: Record) -> Self
+        ensures { result ≡ item_of «record» };
+}
+
+impl Item for MemoryRange {
+    ghost item_of = { range_in };
+
+    fn item_of(record: Record) -> MemoryRange {
+        range_in(record)
+    }
+}
+
+impl Item for MemoryEntry {
+    ghost item_of = { entry_in };
+
+    fn item_of(record: Record) -> MemoryEntry {
+        entry_in(record)
+    }
+}
+
+// How many items there are, and rows 4 and 5 of their ranges.
 #[derive(Clone, Copy)]
 pub(crate) struct ListRead {
     pub count: usize,
     pub check: RangeCheck,
-    pub next: usize,
-    pub order: u8,
 }
 
-pub(crate) fn read_ranges(
-    text: &[u8],
-    at: usize,
-    order: u8,
-    place: u8,
-    starts: &mut [u64],
-    ends: &mut [u64],
-) -> ListRead
-    ensures { let bytes = text.now in
-        let records = records_at bytes at in
-        let ranges = ranges_first place records in (result.count ≡ length ranges)
-        × (result.check ≡ checked_all check_start ranges)
-        × (records_at bytes result.next ≡ behind_words place records)
-        × SameCheck bytes order at result.order result.next
-        × (starts.new ≡ sets starts.old 0 (starts_in ranges))
-        × (ends.new ≡ sets ends.old 0 (ends_in ranges)) }
-{
-    let mut count = 0;
-    let mut check = RangeCheck::start();
-    let mut next = at;
-    let mut after = order;
-    loop {
-        let read = read_word(text, next, after, place);
-        let record = read.record;
-        match record {
-            OptionRecord::None => {
-                return ListRead {
-                    count,
-                    check,
-                    next,
-                    order: after,
-                };
-            }
-            OptionRecord::Some(record) => {
-                let range = range_in(record);
-                put_address(starts, count, range.start);
-                put_address(ends, count, range.end);
-                check = check.with(range);
-                count += 1;
-                next = read.next;
-                after = read.order;
-            }
+impl Cursor {
+    pub(crate) fn read_list<T: Item>(&mut self, text: &[u8], place: u8, list: &mut [T]) -> ListRead
+        ensures count { result.count ≡ length (map T.item_of (words_first place (records_at text.now self.old.at))) }
+        ensures check { let items = map T.item_of (words_first place (records_at text.now self.old.at)) in
+            result.check ≡ checked_all check_start (map T.HasRange.range_in items) }
+        ensures moved { Moved text.now self.old self.new (behind_words place (records_at text.now self.old.at)) }
+        ensures stored { list.new ≡ sets list.old 0 (map T.item_of (words_first place (records_at text.now self.old.at))) }
+    {
+        let mut count = 0;
+        let mut check = RangeCheck::start();
+        while let Some(record) = self.read_word(text, place) {
+            let item = T::item_of(record);
+            put(list, count, item);
+            check = check.with(item.range());
+            count += 1;
         }
-    }
-}
-
-// The host's map, in lists of the fields of its entries.
-pub(crate) fn read_map(
-    text: &[u8],
-    at: usize,
-    order: u8,
-    starts: &mut [u64],
-    ends: &mut [u64],
-    nodes: &mut [u32],
-    protectable: &mut [bool],
-) -> ListRead
-    ensures { let bytes = text.now in
-        let records = records_at bytes at in
-        let map = entries_first records in (result.count ≡ length map)
-        × (result.check ≡ checked_all check_start (map_ranges map))
-        × (records_at bytes result.next ≡ behind_words 2 records)
-        × SameCheck bytes order at result.order result.next
-        × (starts.new ≡ sets starts.old 0 (map_starts_of map))
-        × (ends.new ≡ sets ends.old 0 (map_ends_of map))
-        × (nodes.new ≡ sets nodes.old 0 (map_nodes_of map))
-        × (protectable.new ≡ sets protectable.old 0 (map_protectable_of map)) }
-{
-    let mut count = 0;
-    let mut check = RangeCheck::start();
-    let mut next = at;
-    let mut after = order;
-    loop {
-        let read = read_word(text, next, after, MEM);
-        let record = read.record;
-        match record {
-            OptionRecord::None => {
-                return ListRead {
-                    count,
-                    check,
-                    next,
-                    order: after,
-                };
-            }
-            OptionRecord::Some(record) => {
-                let entry = entry_in(record);
-                put_entry(starts, ends, nodes, protectable, count, entry);
-                check = check.with(entry.range);
-                count += 1;
-                next = read.next;
-                after = read.order;
-            }
-        }
+        ListRead { count, check }
     }
 }

@@ -1,19 +1,12 @@
 // The two records that hold neither a range nor an entry of the map, and stand once.
 ghost use Rattle.std.specs.Prelude.{◌≡◌};
 ghost use Rattle.plan_text.specs.Plan.{held_by, shape_held, pool_held};
-ghost use Rattle.plan_input.specs.Record.{records_at, behind_one, SameCheck};
+ghost use Rattle.plan_input.specs.Record.{records_at, behind_one, SameCheck, Moved};
 ghost use Rattle.plan_input.specs.Once.{first_or, no_shape, no_pool, shape_first, pool_first};
 
-use host_params::{IsolationType, MemoryAllocationMode, OptionU64, Vtl2GpaPoolConfig};
+use crate::word::Cursor;
+use host_params::{IsolationType, MemoryAllocationMode, Vtl2GpaPoolConfig};
 use plan_record::{Pool, Record, Shape};
-use plan_text::{RecordStep, next_record, order_after};
-
-#[derive(Clone, Copy)]
-pub(crate) struct ShapeRead {
-    pub shape: Shape,
-    pub next: usize,
-    pub order: u8,
-}
 
 #[derive(Clone, Copy)]
 pub struct PoolRead {
@@ -37,27 +30,20 @@ fn no_shape() -> Shape
     Shape {
         mode: MemoryAllocationMode::Host,
         isolation: IsolationType::None,
-        memory_size: OptionU64::None,
+        memory_size: None,
     }
 }
 
-pub(crate) fn read_shape(text: &[u8], at: usize, order: u8) -> ShapeRead
-    ensures { let bytes = text.now in
-        let records = records_at bytes at in (result.shape ≡ shape_first records)
-        × (records_at bytes result.next ≡ behind_one records)
-        × SameCheck bytes order at result.order result.next }
-{
-    match next_record(text, at) {
-        RecordStep::Record(record, next) => ShapeRead {
-            shape: shape_in(record),
-            next,
-            order: order_after(order, record),
-        },
-        _ => ShapeRead {
-            shape: no_shape(),
-            next: at,
-            order,
-        },
+impl Cursor {
+    pub(crate) fn read_shape(&mut self, text: &[u8]) -> Shape
+        ensures value { result ≡ shape_first (records_at text.now self.old.at) }
+        ensures moved { Moved text.now self.old self.new (behind_one (records_at text.now self.old.at)) }
+    {
+        let Some((record, behind)) = self.step(text) else {
+            return no_shape();
+        };
+        *self = behind;
+        shape_in(record)
     }
 }
 
@@ -66,7 +52,7 @@ fn no_pool() -> Pool
 {
     Pool {
         config: Vtl2GpaPoolConfig::Off,
-        host_pages: OptionU64::None,
+        host_pages: None,
         processors: 0,
         split: false,
     }
@@ -88,13 +74,14 @@ pub fn read_pool(text: &[u8], at: usize, order: u8) -> PoolRead
         × (records_at bytes result.next ≡ behind_one records)
         × SameCheck bytes order at result.order result.next }
 {
-    match next_record(text, at) {
-        RecordStep::Record(record, next) => PoolRead {
+    let cursor = Cursor { at, order };
+    match cursor.step(text) {
+        Some((record, behind)) => PoolRead {
             pool: pool_in(record),
-            next,
-            order: order_after(order, record),
+            next: behind.at,
+            order: behind.order,
         },
-        _ => PoolRead {
+        None => PoolRead {
             pool: no_pool(),
             next: at,
             order,

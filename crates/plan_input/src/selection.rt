@@ -1,15 +1,14 @@
 // What selection is given.
 ghost use Rattle.std.specs.Prelude.{◌≡◌};
 ghost use Rattle.std.proofs.lemmas.List.Edits.{sets};
-ghost use Rattle.host_map.specs.Map.{map_starts_of, map_ends_of, map_nodes_of, map_protectable_of};
 ghost use Rattle.plan_input.specs.Record.{records_at};
-ghost use Rattle.plan_input.specs.Range.{starts_in, ends_in};
 ghost use Rattle.plan_input.specs.Selection.{selection_in, SelectionHeld};
 
-use crate::list::{read_map, read_ranges};
-use crate::once::read_shape;
-use crate::range::{FILE, IMPORT, or_empty, read_range};
+use crate::entry::MEM;
+use crate::range::{FILE, IMPORT, or_empty};
+use crate::word::Cursor;
 use host_map::MAP_ROOM;
+use host_params::MemoryEntry;
 use memory_range::MemoryRange;
 use plan_record::Shape;
 
@@ -30,55 +29,29 @@ pub struct SelectionRead {
     pub order: u8,
 }
 
-// The map and the imported ranges are written to lists of their fields, as far as there is room.
+// The map and the imported ranges are written to lists, as far as there is room.
 pub fn read_selection(
     text: &[u8],
-    map_starts: &mut [u64; MAP_ROOM],
-    map_ends: &mut [u64; MAP_ROOM],
-    map_nodes: &mut [u32; MAP_ROOM],
-    map_protectable: &mut [bool; MAP_ROOM],
-    import_starts: &mut [u64; IMPORT_ROOM],
-    import_ends: &mut [u64; IMPORT_ROOM],
+    map: &mut [MemoryEntry; MAP_ROOM],
+    imports: &mut [MemoryRange; IMPORT_ROOM],
 ) -> SelectionRead
-    ensures { let bytes = text.now in
-        let given = selection_in (records_at bytes 0) in SelectionHeld bytes given result
-        × (map_starts.new ≡ sets map_starts.old 0 (map_starts_of given.map))
-        × (map_ends.new ≡ sets map_ends.old 0 (map_ends_of given.map))
-        × (map_nodes.new ≡ sets map_nodes.old 0 (map_nodes_of given.map))
-        × (map_protectable.new ≡ sets map_protectable.old 0 (map_protectable_of given.map))
-        × (import_starts.new ≡ sets import_starts.old 0 (starts_in given.imports))
-        × (import_ends.new ≡ sets import_ends.old 0 (ends_in given.imports)) }
+    ensures { let given = selection_in (records_at text.now 0) in SelectionHeld text.now given result
+        × (map.new ≡ sets map.old 0 given.map)
+        × (imports.new ≡ sets imports.old 0 given.imports) }
 {
-    let first = read_shape(text, 0, 0);
-    let second = read_range(text, first.next, first.order, FILE);
-    let map = read_map(
-        text,
-        second.next,
-        second.order,
-        map_starts,
-        map_ends,
-        map_nodes,
-        map_protectable,
-    );
-    let imports = read_ranges(
-        text,
-        map.next,
-        map.order,
-        IMPORT,
-        import_starts,
-        import_ends,
-    );
-    let shape = first.shape;
-    let range = second.range;
-    let file = or_empty(range);
+    let mut cursor = Cursor { at: 0, order: 0 };
+    let shape = cursor.read_shape(text);
+    let file = or_empty(cursor.read_range(text, FILE));
+    let mapped = cursor.read_list(text, MEM, map);
+    let imported = cursor.read_list(text, IMPORT, imports);
     SelectionRead {
         shape,
         file,
-        map_count: map.count,
-        import_count: imports.count,
-        valid: file.is_valid() & map.check.valid & imports.check.valid,
-        ascending: map.check.ascending & imports.check.ascending,
-        next: imports.next,
-        order: imports.order,
+        map_count: mapped.count,
+        import_count: imported.count,
+        valid: file.is_valid() & mapped.check.valid & imported.check.valid,
+        ascending: mapped.check.ascending & imported.check.ascending,
+        next: cursor.at,
+        order: cursor.order,
     }
 }

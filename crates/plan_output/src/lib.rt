@@ -5,4 +5,4 @@ mod line;
 mod put;
 
 pub use line::{LINE_SIZE, write_got, write_map, write_no, write_pool, write_ram};
-pub use put::{Put, put_number, put_word};
+pub use put::{put_number, put_word};

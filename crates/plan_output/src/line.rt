@@ -1,9 +1,9 @@
 // The five kinds of output line, each written at the start of a lent line buffer.
 ghost use Rattle.std.specs.Prelude.{◌≡◌, ◌+◌, ◌≤◌, length};
 ghost use Rattle.plan_output.specs.Number.{hex_of};
-ghost use Rattle.plan_output.specs.Line.{range_line, ram_line, pool_line, got_line, no_line, map_line, written};
+ghost use Rattle.plan_output.specs.Line.{range_line, ram_line, pool_line, got_line, no_line, type_word, map_line, written};
 
-use super::put::{put_field, put_number_field};
+use super::put::{hex_digits, put_field, put_number_field};
 use host_params::MemoryVtlType;
 use memory_range::MemoryRange;
 use plan_fields::{NEWLINE, TAB};
@@ -41,7 +41,7 @@ fn write_node_line(
     ensures buffer_after { buffer.new ≡ written (range_line word.now range (hex_of node)) buffer.old }
 {
     let mut digits = [0u8; 16];
-    let count = io::hex(node as u64, 1, &mut digits);
+    let count = hex_digits(u64::from(node), &mut digits);
     write_range_line(buffer, word, range, &digits[..count])
 }
 
@@ -72,9 +72,26 @@ pub fn write_no(buffer: &mut [u8; LINE_SIZE], refusal: u8) -> usize
     ensures buffer_after { buffer.new ≡ written (no_line refusal) buffer.old }
 {
     let mut digits = [0u8; 20];
-    let count = io::decimal(refusal as u64, &mut digits);
+    let count = io::decimal(u64::from(refusal), &mut digits);
     let at = put_field(buffer, 0, b"no", TAB);
     put_field(buffer, at, &digits[..count], NEWLINE)
+}
+
+fn type_word(memory_type: MemoryVtlType) -> &'static [u8]
+    ensures { result.now ≡ type_word memory_type }
+{
+    match memory_type {
+        MemoryVtlType::Ram => b"ram",
+        MemoryVtlType::Config => b"config",
+        MemoryVtlType::SidecarImage => b"sidecar-image",
+        MemoryVtlType::SidecarNode => b"sidecar-node",
+        MemoryVtlType::Reserved => b"reserved",
+        MemoryVtlType::GpaPool => b"pool",
+        MemoryVtlType::TdxPageTables => b"tdx-tables",
+        MemoryVtlType::BootshimLogBuffer => b"log",
+        MemoryVtlType::PersistedStateHeader => b"state-header",
+        MemoryVtlType::PersistedStatePayload => b"state-payload",
+    }
 }
 
 pub fn write_map(
@@ -85,27 +102,5 @@ pub fn write_map(
     ensures value { result ≡ length (map_line range memory_type) }
     ensures buffer_after { buffer.new ≡ written (map_line range memory_type) buffer.old }
 {
-    let word = b"map";
-    match memory_type {
-        MemoryVtlType::Ram => write_range_line(buffer, word, range, b"ram"),
-        MemoryVtlType::Config => write_range_line(buffer, word, range, b"config"),
-        MemoryVtlType::SidecarImage => write_range_line(buffer, word, range, b"sidecar-image"),
-        MemoryVtlType::SidecarNode => write_range_line(buffer, word, range, b"sidecar-node"),
-        MemoryVtlType::Reserved => write_range_line(buffer, word, range, b"reserved"),
-        MemoryVtlType::GpaPool => write_range_line(buffer, word, range, b"pool"),
-        MemoryVtlType::TdxPageTables => write_range_line(buffer, word, range, b"tdx-tables"),
-        MemoryVtlType::BootshimLogBuffer => write_range_line(buffer, word, range, b"log"),
-        MemoryVtlType::PersistedStateHeader => write_range_line(
-            buffer,
-            word,
-            range,
-            b"state-header",
-        ),
-        MemoryVtlType::PersistedStatePayload => write_range_line(
-            buffer,
-            word,
-            range,
-            b"state-payload",
-        ),
-    }
+    write_range_line(buffer, b"map", range, type_word(memory_type))
 }

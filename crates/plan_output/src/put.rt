@@ -1,13 +1,14 @@
 // Words and numbers put at a place of a lent buffer.
-ghost use Rattle.std.specs.Prelude.{◌≡◌, ◌+◌, ◌≤◌, ◌<◌, [], ◌∷◌, ◌++◌, length};
+ghost use Rattle.std.specs.Prelude.{◌≡◌, ◌+◌, ◌≤◌, [], ◌∷◌, ◌++◌, length, take};
 ghost use Rattle.plan_output.specs.Number.{hex_of};
 ghost use Rattle.plan_output.specs.Put.{put_at, put_in, put_place};
 
-// The place behind what was put, or that there is no room, and nothing was written.
-#[derive(Clone, Copy)]
-pub enum Put {
-    To(usize),
-    NoRoom,
+// Writes a number's hexadecimal digits, and answers how many they are.
+pub(crate) fn hex_digits(number: u64, digits: &mut [u8; 16]) -> usize
+    ensures within { result ≤ 16 }
+    ensures written { take result digits.new ≡ hex_of number }
+{
+    io::hex(number, 1, digits)
 }
 
 // Puts bytes where there is room for them, and answers the place behind them.
@@ -20,27 +21,24 @@ pub(crate) fn put_bytes(buffer: &mut [u8], at: usize, word: &[u8]) -> usize
     at + word.len()
 }
 
-// Puts a word at a place of the buffer.
-pub fn put_word(buffer: &mut [u8], at: usize, word: &[u8]) -> Put
+// Puts a word at a place of the buffer, and answers the place behind it; where there is no room, nothing is written.
+pub fn put_word(buffer: &mut [u8], at: usize, word: &[u8]) -> Option<usize>
     ensures value { result ≡ put_place at word.now buffer.old }
     ensures buffer_after { buffer.new ≡ put_in at word.now buffer.old }
 {
-    if buffer.len() < at {
-        return Put::NoRoom;
+    if buffer.len().checked_sub(at)? < word.len() {
+        return None;
     }
-    if buffer.len() - at < word.len() {
-        return Put::NoRoom;
-    }
-    Put::To(put_bytes(buffer, at, word))
+    Some(put_bytes(buffer, at, word))
 }
 
-// Puts a number's hexadecimal digits at a place of the buffer.
-pub fn put_number(buffer: &mut [u8], at: usize, number: u64) -> Put
+// The same of a number's hexadecimal digits.
+pub fn put_number(buffer: &mut [u8], at: usize, number: u64) -> Option<usize>
     ensures value { result ≡ put_place at (hex_of number) buffer.old }
     ensures buffer_after { buffer.new ≡ put_in at (hex_of number) buffer.old }
 {
     let mut digits = [0u8; 16];
-    let count = io::hex(number, 1, &mut digits);
+    let count = hex_digits(number, &mut digits);
     put_word(buffer, at, &digits[..count])
 }
 
@@ -62,6 +60,6 @@ pub(crate) fn put_number_field(buffer: &mut [u8], at: usize, number: u64, end: u
     ensures buffer_after { buffer.new ≡ put_at at (hex_of number ++ end ∷ []) buffer.old }
 {
     let mut digits = [0u8; 16];
-    let count = io::hex(number, 1, &mut digits);
+    let count = hex_digits(number, &mut digits);
     put_field(buffer, at, &digits[..count], end)
 }

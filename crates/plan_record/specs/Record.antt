@@ -1,22 +1,18 @@
 -- The record of a line (docs/SPEC.md, section 13).
-use Rattle.std.specs.Prelude.{ℕ, cond, List, [], ◌∷◌, eqb, length, get_or}
+use Rattle.std.specs.Prelude.{ℕ, ◌+◌, ◌≡◌, drop, cond, List, [], ◌∷◌, eqb, length, get_or, Option, Some, None}
+use Rattle.std.proofs.Common.{Bor}
 use Prim.Native.String.{String}
-use Rattle.std.proofs.Math.Option.{Option, none, some}
 use Rattle.memory_range.specs.declared.range.MemoryRange.{MemoryRange}
 use Rattle.plan_fields.specs.Cut.{tab, split_on}
 use Rattle.plan_fields.specs.Word.{ascii, same_bytes, after}
 use Rattle.plan_fields.specs.Number.{number_of}
 use Rattle.plan_record.specs.Value.{mode_of, isolation_of, entry_type_of, policy_of, kind_of, split_of, optional_of, node_of, optional_node_of, config_of}
-use Rattle.plan_record.specs.declared.record.Line.{Line}
-use Rattle.plan_record.specs.declared.record.Line.TheVariants as line
-use Rattle.plan_record.specs.declared.record.RangeFields.{RangeFields}
-use Rattle.plan_record.specs.declared.record.RangeFields.TheVariants as range-fields
 use Rattle.plan_record.specs.declared.record.Record.{Record}
 use Rattle.plan_record.specs.declared.record.Record.TheVariants.{Shape, File, Mem, Import, Used, State, Config, Keep, Side, Tables, Log, Gpool, Pool, Get}
 
 -- a value made of n fields; none where there are more or fewer
 abbrev pub having : {A : Type 0} → ℕ → List (List ℕ) → Option A → Option A
-having n fields value = cond (eqb (length fields) n) value none
+having n fields value = cond (eqb (length fields) n) value None
 
 -- field k, counted from 0 behind the word
 abbrev pub field : ℕ → List (List ℕ) → List ℕ
@@ -28,7 +24,7 @@ shape_of fs = having 3 fs (
     after (mode_of (field 0 fs)) (λ mode.
     after (isolation_of (field 1 fs)) (λ isolation.
     after (optional_of (field 2 fs)) (λ size.
-    some (Shape (record { mode = mode; isolation = isolation; memory_size = size }))))))
+    Some (Shape (record { mode = mode; isolation = isolation; memory_size = size }))))))
 
 -- `mem`: start, end, node, type
 abbrev pub mem_of : List (List ℕ) → Option Record
@@ -37,7 +33,7 @@ mem_of fs = having 4 fs (
     after (number_of (field 1 fs)) (λ end.
     after (node_of (field 2 fs)) (λ node.
     after (entry_type_of (field 3 fs)) (λ type.
-    some (Mem (record { range = record { start = start; end = end }; vnode = node; mem_type = type })))))))
+    Some (Mem (record { range = record { start = start; end = end }; vnode = node; mem_type = type })))))))
 
 -- `pool`: kind with its pages, host pages or absent, processors, split
 abbrev pub pool_of : List (List ℕ) → Option Record
@@ -46,7 +42,7 @@ pool_of fs = having 5 fs (
     after (optional_of (field 2 fs)) (λ host.
     after (number_of (field 3 fs)) (λ processors.
     after (split_of (field 4 fs)) (λ split.
-    some (Pool (record { config = config; host_pages = host; processors = processors; split = split })))))))
+    Some (Pool (record { config = config; host_pages = host; processors = processors; split = split })))))))
 
 -- `get`: node or absent, length, policy, kind, alignment or absent
 abbrev pub get_of : List (List ℕ) → Option Record
@@ -56,14 +52,14 @@ get_of fs = having 5 fs (
     after (policy_of (field 2 fs)) (λ policy.
     after (kind_of (field 3 fs)) (λ kind.
     after (optional_of (field 4 fs)) (λ align.
-    some (Get (record { required_vnode = node; len = len; allocation_policy = policy; allocation_type = kind; alignment = align }))))))))
+    Some (Get (record { required_vnode = node; len = len; allocation_policy = policy; allocation_type = kind; alignment = align }))))))))
 
 -- a start and an end
 abbrev pub range_of : List (List ℕ) → Option MemoryRange
 range_of fs = having 2 fs (
     after (number_of (field 0 fs)) (λ start.
     after (number_of (field 1 fs)) (λ end.
-    some (record { start = start; end = end }))))
+    Some (record { start = start; end = end }))))
 
 -- how often a word may stand in a text: once; at most once (`?`); any number of times (`*`)
 pub data Occurs : Type 0 where
@@ -105,11 +101,11 @@ times_of (range word times make) = times
 
 abbrev pub makes : Form → List (List ℕ) → Option Record
 makes (own word times make) fields = make fields
-makes (range word times make) fields = after (range_of fields) (λ r. some (make r))
+makes (range word times make) fields = after (range_of fields) (λ r. Some (make r))
 
 -- the record that a word makes of the fields behind it, by the form whose word it is
 abbrev pub record_by : List Form → List ℕ → List (List ℕ) → Option Record
-record_by [] w fields = none
+record_by [] w fields = None
 record_by (form ∷ rest) w fields = cond (same_bytes w (word_in form)) (makes form fields) (record_by rest w fields)
 
 abbrev pub record_for : List ℕ → List (List ℕ) → Option Record
@@ -117,24 +113,22 @@ record_for w fields = record_by forms w fields
 
 -- the record that a word makes of a range, where its fields are a start and an end
 abbrev pub range_by : List Form → List ℕ → MemoryRange → Option Record
-range_by [] w r = none
+range_by [] w r = None
 range_by (own word times make ∷ rest) w r = range_by rest w r
-range_by (range word times make ∷ rest) w r = cond (same_bytes w (ascii word)) (some (make r)) (range_by rest w r)
+range_by (range word times make ∷ rest) w r = cond (same_bytes w (ascii word)) (Some (make r)) (range_by rest w r)
 
 -- the record of a line's fields: the first is its word
 abbrev pub fields_record : List (List ℕ) → Option Record
-fields_record [] = none
+fields_record [] = None
 fields_record (w ∷ fields) = record_for w fields
 
 -- the record of a line, without its newline; none where the line breaks its form
 abbrev pub line_of : List ℕ → Option Record
 line_of bs = fields_record (split_on tab bs)
 
--- what the answers stand for
-abbrev pub record_in : Line → Option Record
-record_in (line.Record r) = some r
-record_in line.Malformed = none
-
-abbrev pub range_in : RangeFields → Option MemoryRange
-range_in (range-fields.Is r) = some r
-range_in range-fields.Malformed = none
+-- a value that was read of the first of several fields, with the fields behind it, by what is to be read with that field's length
+abbrev pub Taken : {A : Type 0} → Option (A × ℕ) → List ℕ → Option (A × Bor (List ℕ)) → Type 0
+Taken None bs None = Unit {0}
+Taken None bs (Some r) = ⊥
+Taken (Some p) bs None = ⊥
+Taken (Some p) bs (Some r) = (r.0 ≡ p.0) × (r.1.now ≡ drop (p.1 + 1) bs)

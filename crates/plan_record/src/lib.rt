@@ -4,4 +4,4 @@
 mod record;
 mod value;
 
-pub use record::{Get, Line, Pool, Record, Shape, read_line};
+pub use record::{Get, Pool, Record, Shape, read_line};

@@ -2,248 +2,141 @@
 ghost use Rattle.std.specs.Prelude.{◌≡◌, take};
 ghost use Rattle.plan_fields.specs.Cut.{first_of};
 ghost use Rattle.plan_fields.specs.Word.{same_bytes};
-ghost use Rattle.plan_record.specs.Value.{mode_of, mode_in, isolation_of, isolation_in, entry_type_of, entry_type_in, policy_of, policy_in, kind_of, kind_in, split_of, split_in};
-ghost use Rattle.plan_record.specs.Value.{absent_first, optional_of, optional_in, optional_part_in, node_from, node_in, optional_node_from, optional_node_in, config_of, config_in};
+ghost use Rattle.plan_record.specs.Value.{mode_of, isolation_of, entry_type_of, policy_of, kind_of, split_of};
+ghost use Rattle.plan_record.specs.Value.{absent_first, optional_of, node_from, optional_node_from, config_of};
 
 use host_params::{
     AllocationPolicy, AllocationType, IsolationType, MemoryAllocationMode, MemoryMapEntryType,
-    OptionU32, OptionU64, Vtl2GpaPoolConfig, Vtl2GpaPoolLookupTable,
+    Vtl2GpaPoolConfig, Vtl2GpaPoolLookupTable,
 };
-use plan_fields::{NumberField, NumberPart, first_number, read_number, same_bytes};
+use plan_fields::{first_number, read_number, same_bytes, word_value};
 
-#[derive(Clone, Copy)]
-pub(crate) enum ModeField {
-    Is(MemoryAllocationMode),
-    Malformed,
-}
+const MODES: [(&[u8], MemoryAllocationMode); 2] = [
+    (b"h", MemoryAllocationMode::Host),
+    (b"b", MemoryAllocationMode::Vtl2),
+];
 
-pub(crate) fn read_mode(field: &[u8]) -> ModeField
-    ensures { mode_in result ≡ mode_of field.now }
+pub(crate) fn read_mode(field: &[u8]) -> Option<MemoryAllocationMode>
+    ensures { result ≡ mode_of field.now }
 {
-    if same_bytes(field, b"h") {
-        return ModeField::Is(MemoryAllocationMode::Host);
-    }
-    if same_bytes(field, b"b") {
-        return ModeField::Is(MemoryAllocationMode::Vtl2);
-    }
-    ModeField::Malformed
+    word_value(field, &MODES)
 }
 
-#[derive(Clone, Copy)]
-pub(crate) enum IsolationField {
-    Is(IsolationType),
-    Malformed,
-}
+const ISOLATIONS: [(&[u8], IsolationType); 5] = [
+    (b"none", IsolationType::None),
+    (b"vbs", IsolationType::Vbs),
+    (b"snp", IsolationType::Snp),
+    (b"tdx", IsolationType::Tdx),
+    (b"cca", IsolationType::Cca),
+];
 
-pub(crate) fn read_isolation(field: &[u8]) -> IsolationField
-    ensures { isolation_in result ≡ isolation_of field.now }
+pub(crate) fn read_isolation(field: &[u8]) -> Option<IsolationType>
+    ensures { result ≡ isolation_of field.now }
 {
-    if same_bytes(field, b"none") {
-        return IsolationField::Is(IsolationType::None);
-    }
-    if same_bytes(field, b"vbs") {
-        return IsolationField::Is(IsolationType::Vbs);
-    }
-    if same_bytes(field, b"snp") {
-        return IsolationField::Is(IsolationType::Snp);
-    }
-    if same_bytes(field, b"tdx") {
-        return IsolationField::Is(IsolationType::Tdx);
-    }
-    if same_bytes(field, b"cca") {
-        return IsolationField::Is(IsolationType::Cca);
-    }
-    IsolationField::Malformed
+    word_value(field, &ISOLATIONS)
 }
 
-#[derive(Clone, Copy)]
-pub(crate) enum EntryTypeField {
-    Is(MemoryMapEntryType),
-    Malformed,
-}
+const ENTRY_TYPES: [(&[u8], MemoryMapEntryType); 2] = [
+    (b"p", MemoryMapEntryType::Vtl2Protectable),
+    (b"o", MemoryMapEntryType::Memory),
+];
 
-pub(crate) fn read_entry_type(field: &[u8]) -> EntryTypeField
-    ensures { entry_type_in result ≡ entry_type_of field.now }
+pub(crate) fn read_entry_type(field: &[u8]) -> Option<MemoryMapEntryType>
+    ensures { result ≡ entry_type_of field.now }
 {
-    if same_bytes(field, b"p") {
-        return EntryTypeField::Is(MemoryMapEntryType::Vtl2Protectable);
-    }
-    if same_bytes(field, b"o") {
-        return EntryTypeField::Is(MemoryMapEntryType::Memory);
-    }
-    EntryTypeField::Malformed
+    word_value(field, &ENTRY_TYPES)
 }
 
-#[derive(Clone, Copy)]
-pub(crate) enum PolicyField {
-    Is(AllocationPolicy),
-    Malformed,
-}
+const POLICIES: [(&[u8], AllocationPolicy); 2] = [
+    (b"l", AllocationPolicy::LowMemory),
+    (b"h", AllocationPolicy::HighMemory),
+];
 
-pub(crate) fn read_policy(field: &[u8]) -> PolicyField
-    ensures { policy_in result ≡ policy_of field.now }
+pub(crate) fn read_policy(field: &[u8]) -> Option<AllocationPolicy>
+    ensures { result ≡ policy_of field.now }
 {
-    if same_bytes(field, b"l") {
-        return PolicyField::Is(AllocationPolicy::LowMemory);
-    }
-    if same_bytes(field, b"h") {
-        return PolicyField::Is(AllocationPolicy::HighMemory);
-    }
-    PolicyField::Malformed
+    word_value(field, &POLICIES)
 }
 
-#[derive(Clone, Copy)]
-pub(crate) enum KindField {
-    Is(AllocationType),
-    Malformed,
-}
+const KINDS: [(&[u8], AllocationType); 3] = [
+    (b"p", AllocationType::GpaPool),
+    (b"s", AllocationType::SidecarNode),
+    (b"t", AllocationType::TdxPageTables),
+];
 
-pub(crate) fn read_kind(field: &[u8]) -> KindField
-    ensures { kind_in result ≡ kind_of field.now }
+pub(crate) fn read_kind(field: &[u8]) -> Option<AllocationType>
+    ensures { result ≡ kind_of field.now }
 {
-    if same_bytes(field, b"p") {
-        return KindField::Is(AllocationType::GpaPool);
-    }
-    if same_bytes(field, b"s") {
-        return KindField::Is(AllocationType::SidecarNode);
-    }
-    if same_bytes(field, b"t") {
-        return KindField::Is(AllocationType::TdxPageTables);
-    }
-    KindField::Malformed
+    word_value(field, &KINDS)
 }
 
-#[derive(Clone, Copy)]
-pub(crate) enum SplitField {
-    Is(bool),
-    Malformed,
-}
+const SPLITS: [(&[u8], bool); 2] = [(b"y", true), (b"n", false)];
 
-pub(crate) fn read_split(field: &[u8]) -> SplitField
-    ensures { split_in result ≡ split_of field.now }
+pub(crate) fn read_split(field: &[u8]) -> Option<bool>
+    ensures { result ≡ split_of field.now }
 {
-    if same_bytes(field, b"y") {
-        return SplitField::Is(true);
-    }
-    if same_bytes(field, b"n") {
-        return SplitField::Is(false);
-    }
-    SplitField::Malformed
-}
-
-#[derive(Clone, Copy)]
-pub(crate) enum OptionalField {
-    Is(OptionU64),
-    Malformed,
+    word_value(field, &SPLITS)
 }
 
 // A number, or `-`.
-pub(crate) fn read_optional(field: &[u8]) -> OptionalField
-    ensures { optional_in result ≡ optional_of field.now }
+pub(crate) fn read_optional(field: &[u8]) -> Option<Option<u64>>
+    ensures { result ≡ optional_of field.now }
 {
     if same_bytes(field, b"-") {
-        return OptionalField::Is(OptionU64::None);
+        return Some(None);
     }
-    match read_number(field) {
-        NumberField::Number(n) => OptionalField::Is(OptionU64::Some(n)),
-        NumberField::Malformed => OptionalField::Malformed,
-    }
+    Some(Some(read_number(field)?))
 }
 
-// The value of the first of several fields where it may be absent, and the size of that field.
-#[derive(Clone, Copy)]
-pub(crate) enum OptionalPart {
-    Is(OptionU64, usize),
-    Malformed,
-}
-
-// Whether the first of several fields is `-`.
-fn absent_first(fields: &[u8]) -> bool
-    ensures { result ≡ same_bytes (take 2 fields.now) absent_first }
+// A number, or `-`, as the first of several fields, and the size of that field.
+pub(crate) fn first_optional(fields: &[u8]) -> Option<(Option<u64>, usize)>
+    ensures { result ≡ first_of optional_of fields.now }
 {
-    if fields.len() < 2 {
-        return false;
+    if fields.starts_with(b"-\t") {
+        return Some((None, 1));
     }
-    same_bytes(&fields[..2], b"-\t")
+    let (number, size) = first_number(fields)?;
+    Some((Some(number), size))
 }
-
-// A number, or `-`.
-pub(crate) fn first_optional(fields: &[u8]) -> OptionalPart
-    ensures { optional_part_in result ≡ first_of optional_of fields.now }
-{
-    if absent_first(fields) {
-        return OptionalPart::Is(OptionU64::None, 1);
-    }
-    match first_number(fields) {
-        NumberPart::Number(n, size) => OptionalPart::Is(OptionU64::Some(n), size),
-        NumberPart::Malformed => OptionalPart::Malformed,
-    }
-}
-
-#[derive(Clone, Copy)]
-pub(crate) enum NodeField {
-    Is(u32),
-    Malformed,
-}
-
-const MOST_NODE: u64 = 0xffff_ffff;
 
 // A number of 32 bits.
-pub(crate) fn read_node(number: u64) -> NodeField
-    ensures { node_in result ≡ node_from number }
+pub(crate) fn read_node(number: u64) -> Option<u32>
+    ensures { result ≡ node_from number }
 {
-    if MOST_NODE < number {
-        return NodeField::Malformed;
-    }
-    NodeField::Is(number as u32)
-}
-
-#[derive(Clone, Copy)]
-pub(crate) enum OptionalNodeField {
-    Is(OptionU32),
-    Malformed,
+    u32::try_from(number).ok()
 }
 
 // A node, or that it is absent.
-pub(crate) fn read_optional_node(number: OptionU64) -> OptionalNodeField
-    ensures { optional_node_in result ≡ optional_node_from number }
+pub(crate) fn read_optional_node(number: Option<u64>) -> Option<Option<u32>>
+    ensures { result ≡ optional_node_from number }
 {
-    let OptionU64::Some(number) = number else {
-        return OptionalNodeField::Is(OptionU32::None);
+    let Some(number) = number else {
+        return Some(None);
     };
-    match read_node(number) {
-        NodeField::Is(node) => OptionalNodeField::Is(OptionU32::Some(node)),
-        NodeField::Malformed => OptionalNodeField::Malformed,
-    }
+    Some(Some(read_node(number)?))
 }
 
-#[derive(Clone, Copy)]
-pub(crate) enum ConfigField {
-    Is(Vtl2GpaPoolConfig),
-    Malformed,
-}
+const KINDS_WITHOUT_PAGES: [(&[u8], Vtl2GpaPoolConfig); 3] = [
+    (b"off", Vtl2GpaPoolConfig::Off),
+    (
+        b"release",
+        Vtl2GpaPoolConfig::Heuristics(Vtl2GpaPoolLookupTable::Release),
+    ),
+    (
+        b"debug",
+        Vtl2GpaPoolConfig::Heuristics(Vtl2GpaPoolLookupTable::Debug),
+    ),
+];
 
 // The kind of pool with its pages, which are `-` exactly unless the kind is `pages`.
-pub(crate) fn read_pool_config<'a>(kind: &'a [u8], pages: &'a [u8]) -> ConfigField
-    ensures { config_in result ≡ config_of kind.now pages.now }
+pub(crate) fn read_pool_config(kind: &[u8], pages: &[u8]) -> Option<Vtl2GpaPoolConfig>
+    ensures { result ≡ config_of kind.now pages.now }
 {
     if same_bytes(kind, b"pages") {
-        return match read_number(pages) {
-            NumberField::Number(n) => ConfigField::Is(Vtl2GpaPoolConfig::Pages(n)),
-            NumberField::Malformed => ConfigField::Malformed,
-        };
+        return Some(Vtl2GpaPoolConfig::Pages(read_number(pages)?));
     }
     if !same_bytes(pages, b"-") {
-        return ConfigField::Malformed;
+        return None;
     }
-    if same_bytes(kind, b"off") {
-        return ConfigField::Is(Vtl2GpaPoolConfig::Off);
-    }
-    if same_bytes(kind, b"release") {
-        return ConfigField::Is(Vtl2GpaPoolConfig::Heuristics(Vtl2GpaPoolLookupTable::Release));
-    }
-    if same_bytes(kind, b"debug") {
-        return ConfigField::Is(Vtl2GpaPoolConfig::Heuristics(Vtl2GpaPoolLookupTable::Debug));
-    }
-    ConfigField::Malformed
+    word_value(kind, &KINDS_WITHOUT_PAGES)
 }

@@ -1,11 +1,14 @@
 -- The order of records judged one by one (docs/SPEC.md, section 14). It is kept as the least place that the
 -- next record may have; `broken` once a record was out of order, repeated, or came before one that is missing.
-use Rattle.std.specs.Prelude.{ℕ, ◌+◌, Bool, cond, ◌&&◌, ◌||◌, List, [], ◌∷◌, eqb, leb}
+use Rattle.std.specs.Prelude.{ℕ, ◌+◌, Bool, cond, ◌&&◌, ◌||◌, List, [], ◌∷◌, eqb, leb, Result, Ok, Err}
 use Rattle.plan_record.specs.declared.record.Record.{Record}
-use Rattle.plan_text.specs.declared.text.TextCheck.{TextCheck}
-use Rattle.plan_text.specs.declared.text.TextCheck.TheVariants.{Accepted, Refused}
 use Rattle.refusal.specs.Number.{record_order}
+use Rattle.refusal.specs.declared.Refusal.{Refusal}
 use Rattle.plan_text.specs.Order.{place_of}
+
+-- that a text is accepted, or the refusal of its first broken row
+abbrev pub TextCheck : Type 0
+TextCheck = Result (Unit {0}) Refusal
 
 abbrev pub broken : ℕ
 broken = 15
@@ -28,7 +31,7 @@ complete = 13
 
 -- row 2 by the order that the last record left
 abbrev pub order_end : ℕ → TextCheck
-order_end k = cond (eqb k complete) Accepted (Refused record_order)
+order_end k = cond (eqb k complete) (Ok tt) (Err record_order)
 
 -- whether the records behind those that left the order k end a text: none is missing after the last
 abbrev pub ordered : ℕ → List Record → Bool

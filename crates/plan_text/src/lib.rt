@@ -5,4 +5,4 @@ mod order;
 mod text;
 
 pub use order::{order_after, record_place};
-pub use text::{RecordStep, TEXT_SIZE, TextCheck, check_from, check_text, next_record};
+pub use text::{TEXT_SIZE, check_from, check_text, next_record};

@@ -5,7 +5,8 @@ ghost use Rattle.plan_text.specs.OrderStep.{greatest_place, repeats, order_after
 
 use plan_record::Record;
 
-// The order is the least place that the next record may have; this one, once it is broken.
+// The order is the least place that the next record may have; this one, once it is broken. It is a number,
+// since the definitions compare and count places.
 pub(crate) const BROKEN: u8 = 15;
 
 // The order that a text must leave: behind the pool record, where only get records may follow.
@@ -52,13 +53,11 @@ fn greatest_place(order: u8) -> u8
 fn may_repeat(place: u8) -> bool
     ensures { result ≡ repeats place }
 {
-    match place {
-        2 | 3 | 6 | 11 | 13 => true,
-        _ => false,
-    }
+    matches!(place, 2 | 3 | 6 | 11 | 13)
 }
 
 // The order after a record. At the start of a text it is 0.
+#[tactic(auto, unfolding(crate::specs::OrderStep::order_after))]
 pub fn order_after(order: u8, record: Record) -> u8
     ensures { result ≡ order_after order (place_of «record») }
 {

@@ -8,4 +8,4 @@ mod pool;
 mod split;
 
 pub use place::allocate_private_pool;
-pub use pool::{MAX_POOL_RANGES, PoolPlaced, PrivatePool};
+pub use pool::{MAX_POOL_RANGES, PrivatePool};

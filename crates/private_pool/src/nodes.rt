@@ -6,11 +6,11 @@ ghost use Rattle.private_pool.specs.Pool.{max_pool_ranges};
 
 use crate::pool::MAX_POOL_RANGES;
 use address_space::AddressSpaceManager;
-use range_lists::{NodeCount, insert_node};
+use range_lists::insert_node;
 
 // Puts the nodes of the table's entries into the array, ascending and without repeats, and answers
 // how many there are. A table has no more entries than the array has places, so there is always
-// room, and Full is never answered.
+// room, and None is never answered.
 pub(crate) fn table_nodes(
     manager: AddressSpaceManager,
     numa_nodes: &mut [u32; MAX_POOL_RANGES],
@@ -20,16 +20,12 @@ pub(crate) fn table_nodes(
         × (result ≤ max_pool_ranges)
         × (numa_nodes.new ≡ nodes ++ drop (length nodes) numa_nodes.old) }
 {
-    let entries = manager.len();
     let mut count = 0;
-    let mut i = 0;
-    while i < entries {
-        let entry = manager.address_space[i];
+    for entry in manager.entries() {
         match insert_node(numa_nodes, count, entry.vnode) {
-            NodeCount::Count(more) => count = more,
-            NodeCount::Full => return count,
+            Some(more) => count = more,
+            None => return count,
         }
-        i += 1;
     }
     count
 }

@@ -7,9 +7,9 @@ ghost use Rattle.private_pool.specs.Piece.{piece};
 ghost use Rattle.private_pool.specs.Pool.{pages_bound, piece_on, piece_refusal};
 
 use address_space::{AddressSpaceManager, Allocation};
-use host_params::{AllocationPolicy, AllocationType, OptionU32, OptionU64};
+use host_params::{AllocationPolicy, AllocationType};
 use memory_range::PAGE_SIZE;
-use refusal::{NO_FIT, POOL_NODE_NO_FIT};
+use refusal::Refusal;
 
 // So many pages of a node, from the top of its highest entry that has them.
 pub(crate) fn place_piece(manager: AddressSpaceManager, vnode: u32, pages: u64) -> Allocation
@@ -17,20 +17,20 @@ pub(crate) fn place_piece(manager: AddressSpaceManager, vnode: u32, pages: u64) 
     ensures { result ≡ allocation_as manager type.GpaPool (piece_on (piece vnode pages) (entries_of manager)) }
 {
     manager.allocate_inner(
-        OptionU32::Some(vnode),
+        Some(vnode),
         pages * PAGE_SIZE,
         AllocationType::GpaPool,
         AllocationPolicy::HighMemory,
-        OptionU64::None,
+        None,
     )
 }
 
 // What a split is refused with where a piece of it is.
-pub(crate) fn piece_refusal(number: u8) -> u8
-    ensures { result ≡ piece_refusal number }
+pub(crate) fn piece_refusal(refusal: Refusal) -> Refusal
+    ensures { result ≡ piece_refusal refusal }
 {
-    if number == NO_FIT {
-        return POOL_NODE_NO_FIT;
+    match refusal {
+        Refusal::NoFit => Refusal::PoolNodeNoFit,
+        other => other,
     }
-    number
 }

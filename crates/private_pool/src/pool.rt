@@ -4,21 +4,15 @@ ghost use Rattle.private_pool.specs.Pool.{no_range, pool_refused_with};
 
 use address_space::{AddressSpaceManager, AllocatedRange};
 use memory_range::MemoryRange;
+use refusal::Refusal;
 
 // A table of 256 entries has at most so many nodes, and a pool one range on each.
 pub const MAX_POOL_RANGES: usize = 256;
 
-#[derive(Clone, Copy)]
-pub enum PoolPlaced {
-    // So many ranges are placed.
-    Ranges(usize),
-    Refused(u8),
-}
-
-// The answer, the ranges in the order of their nodes, and the table afterwards.
+// How many ranges are placed, the ranges in the order of their nodes, and the table afterwards.
 #[derive(Clone, Copy)]
 pub struct PrivatePool {
-    pub answer: PoolPlaced,
+    pub answer: Result<usize, Refusal>,
     pub ranges: [AllocatedRange; MAX_POOL_RANGES],
     pub manager: AddressSpaceManager,
 }
@@ -34,12 +28,12 @@ pub(crate) fn no_range() -> AllocatedRange
 }
 
 // A refusal has no ranges, and the table is the one that was given.
-pub(crate) fn refused(manager: AddressSpaceManager, number: u8) -> PrivatePool
-    ensures { result ≡ pool_refused_with manager number }
+pub(crate) fn refused(manager: AddressSpaceManager, refusal: Refusal) -> PrivatePool
+    ensures { result ≡ pool_refused_with manager refusal }
 {
     let none = no_range();
     PrivatePool {
-        answer: PoolPlaced::Refused(number),
+        answer: Err(refusal),
         ranges: [none; MAX_POOL_RANGES],
         manager,
     }

@@ -1,18 +1,19 @@
 // The pool split over the nodes of the table.
-ghost use Rattle.std.specs.Prelude.{◌≡◌, ◌+◌, ◌≤◌, ◌<◌, cond, eqb, length, take};
+ghost use Rattle.std.specs.Prelude.{◌≡◌, ◌+◌, ◌≤◌, ◌<◌, cond, eqb, length};
 ghost use Rattle.address_space.specs.Table.{entries_of};
 ghost use Rattle.private_pool.specs.Piece.{split_pieces};
 ghost use Rattle.private_pool.specs.Pool.{max_pool_ranges, pages_bound, place_pieces, split_placed, pool_as};
 
 use crate::nodes::table_nodes;
 use crate::piece::{piece_refusal, place_piece};
-use crate::pool::{MAX_POOL_RANGES, PoolPlaced, PrivatePool, no_range, refused};
-use address_space::{AddressSpaceManager, Allocated};
-use refusal::POOL_SPLIT;
+use crate::pool::{MAX_POOL_RANGES, PrivatePool, no_range, refused};
+use address_space::AddressSpaceManager;
+use refusal::Refusal;
 
 // The pages of the piece at an index: the last one has those that the others leave.
 fn piece_pages(share: u64, remainder: u64, at: usize, count: usize) -> u64
-    requires { (at < count) × (share + remainder < pages_bound) }
+    requires among { at < count }
+    requires fits { share + remainder < pages_bound }
     ensures { result ≡ cond (eqb (at + 1) count) (share + remainder) share }
 {
     if at + 1 == count {
@@ -21,37 +22,32 @@ fn piece_pages(share: u64, remainder: u64, at: usize, count: usize) -> u64
     share
 }
 
-// A piece on each of the first count nodes, each on the table that the one before it left. The
-// pieces are placed in a copy of the table, so that a refusal has the table that was given.
-fn place_pieces(
-    manager: AddressSpaceManager,
-    pages: u64,
-    numa_nodes: &[u32; MAX_POOL_RANGES],
-    count: usize,
-) -> PrivatePool
-    requires { (0 < count) × (count ≤ max_pool_ranges) × (length numa_nodes.now ≡ max_pool_ranges) × (pages < pages_bound) }
-    ensures { let pieces = split_pieces pages (take count numa_nodes.now) in
-        result ≡ pool_as manager (place_pieces pieces (entries_of manager)) }
+// A piece on each of the nodes, each on the table that the one before it left. The pieces are placed
+// in a copy of the table, so that a refusal has the table that was given. How long a piece is depends on
+// its index.
+fn place_pieces(manager: AddressSpaceManager, pages: u64, nodes: &[u32]) -> PrivatePool
+    requires some { 0 < length nodes.now }
+    requires room { length nodes.now ≤ max_pool_ranges }
+    requires fits { pages < pages_bound }
+    ensures { result ≡ pool_as manager (place_pieces (split_pieces pages nodes.now) (entries_of manager)) }
 {
+    let count = nodes.len();
     let share = pages / count as u64;
     let remainder = pages % count as u64;
     let none = no_range();
     let mut ranges = [none; MAX_POOL_RANGES];
     let mut current = manager;
-    let mut i = 0;
-    while i < count {
+    for i in 0..count {
         let piece = piece_pages(share, remainder, i, count);
-        let allocation = place_piece(current, numa_nodes[i], piece);
-        let answer = allocation.answer;
-        match answer {
-            Allocated::Range(range) => ranges[i] = range,
-            Allocated::Refused(number) => return refused(manager, piece_refusal(number)),
+        let allocation = place_piece(current, nodes[i], piece);
+        match allocation.answer {
+            Ok(range) => ranges[i] = range,
+            Err(refusal) => return refused(manager, piece_refusal(refusal)),
         }
         current = allocation.manager;
-        i += 1;
     }
     PrivatePool {
-        answer: PoolPlaced::Ranges(count),
+        answer: Ok(count),
         ranges,
         manager: current,
     }
@@ -64,11 +60,8 @@ pub(crate) fn split_pool(manager: AddressSpaceManager, pages: u64) -> PrivatePoo
 {
     let mut numa_nodes = [0u32; MAX_POOL_RANGES];
     let count = table_nodes(manager, &mut numa_nodes);
-    if count == 0 {
-        return refused(manager, POOL_SPLIT);
+    if count == 0 || pages < count as u64 {
+        return refused(manager, Refusal::PoolSplit);
     }
-    if pages < count as u64 {
-        return refused(manager, POOL_SPLIT);
-    }
-    place_pieces(manager, pages, &numa_nodes, count)
+    place_pieces(manager, pages, &numa_nodes[..count])
 }

@@ -1,7 +1,5 @@
 -- Touching ranges of one type joined (docs/SPEC.md, section 7).
-use Rattle.std.specs.Prelude.{Bool, false, cond, ◌&&◌, List, [], ◌∷◌, eqb, drop}
-use Rattle.range_lists.specs.declared.merge.MergeStep.{MergeStep}
-use Rattle.range_lists.specs.declared.merge.MergeStep.TheVariants.{Range, End}
+use Rattle.std.specs.Prelude.{ℕ, Bool, false, cond, ◌&&◌, List, [], ◌∷◌, eqb, drop, Option, Some, None}
 use Rattle.memory_range.specs.declared.range.TaggedRange.{TaggedRange}
 use Rattle.memory_range.specs.List.{tagged}
 
@@ -25,6 +23,6 @@ merge_adjacent [] = []
 merge_adjacent (x ∷ xs) = merge_first x (merge_adjacent xs)
 
 -- the joined ranges that a step's answer stands for: the one it yields and those from its index on
-abbrev pub merge_stepped : List TaggedRange → MergeStep → List TaggedRange
-merge_stepped xs (Range r next) = r ∷ merge_adjacent (drop next xs)
-merge_stepped xs End = []
+abbrev pub merge_stepped : List TaggedRange → Option (TaggedRange × ℕ) → List TaggedRange
+merge_stepped xs (Some (r, next)) = r ∷ merge_adjacent (drop next xs)
+merge_stepped xs None = []

@@ -1,9 +1,7 @@
 -- What of one list of ranges is in none of another (docs/SPEC.md, section 6).
-use Rattle.std.specs.Prelude.{List, [], ◌∷◌, ◌++◌}
+use Rattle.std.specs.Prelude.{List, [], ◌∷◌, ◌++◌, Option, Some, None}
 use Rattle.memory_range.specs.declared.range.MemoryRange.{MemoryRange}
 use Rattle.range_lists.specs.declared.subtract.Remainder.{Remainder}
-use Rattle.range_lists.specs.declared.subtract.SubtractStep.{SubtractStep}
-use Rattle.range_lists.specs.declared.subtract.SubtractStep.TheVariants.{Range, End}
 use Rattle.range_lists.specs.declared.walk.RangeWalkResult.{RangeWalkResult}
 use Rattle.range_lists.specs.declared.walk.RangeWalkResult.TheVariants.{Left, Right, Both}
 use Rattle.range_lists.specs.declared.walk.WalkCursor.{WalkCursor}
@@ -31,6 +29,6 @@ abbrev pub subtract : List MemoryRange → List MemoryRange → List Remainder
 subtract ls rs = subtract_from ls rs walk_start
 
 -- the parts that a step's answer stands for
-abbrev pub subtract_stepped : List MemoryRange → List MemoryRange → SubtractStep → List Remainder
-subtract_stepped ls rs (Range r c) = r ∷ subtract_from ls rs c
-subtract_stepped ls rs End = []
+abbrev pub subtract_stepped : List MemoryRange → List MemoryRange → Option (Remainder × WalkCursor) → List Remainder
+subtract_stepped ls rs (Some (r, c)) = r ∷ subtract_from ls rs c
+subtract_stepped ls rs None = []

@@ -1,14 +1,11 @@
 -- The walk of two lists of ranges (docs/SPEC.md, section 5; document 01, Port order 1): it cuts at
 -- every start and end of either list, and each piece tells which item of each list holds it.
-use Rattle.std.specs.Prelude.{ℕ, ◌+◌, ◌/◌, ◌%◌, Bool, cond, ◌&&◌, List, [], ◌∷◌, ◌++◌, map, leb, ltb, eqb, length, drop}
-use Rattle.std.proofs.Math.Option.{Option, none, some}
+use Rattle.std.specs.Prelude.{ℕ, ◌+◌, ◌/◌, ◌%◌, Bool, cond, ◌&&◌, List, [], ◌∷◌, ◌++◌, map, leb, ltb, eqb, length, drop, Option, Some, None}
 use Rattle.memory_range.specs.declared.range.MemoryRange.{MemoryRange}
 use Rattle.range_lists.specs.declared.walk.RangeWalkResult.{RangeWalkResult}
 use Rattle.range_lists.specs.declared.walk.RangeWalkResult.TheVariants.{Left, Right, Both}
 use Rattle.range_lists.specs.declared.walk.WalkCursor.{WalkCursor}
 use Rattle.range_lists.specs.declared.walk.WalkPiece.{WalkPiece}
-use Rattle.range_lists.specs.declared.walk.WalkStep.{WalkStep}
-use Rattle.range_lists.specs.declared.walk.WalkStep.TheVariants.{Piece, End}
 use Rattle.memory_range.specs.Range.{range}
 
 -- the boundaries of a list: each item's start and end, in the order of the items
@@ -41,19 +38,19 @@ is_open n k = eqb (k % 2) 1 && ltb (k / 2) n
 
 -- which item that is
 abbrev pub open_item : ℕ → ℕ → Option ℕ
-open_item n k = cond (is_open n k) (some (k / 2)) none
+open_item n k = cond (is_open n k) (Some (k / 2)) None
 
 -- what a piece says, from the open item of each list; where neither has one, there is no piece
 abbrev pub held_by : Option ℕ → Option ℕ → Option RangeWalkResult
-held_by none none = none
-held_by (some i) none = some (Left i)
-held_by none (some j) = some (Right j)
-held_by (some i) (some j) = some (Both i j)
+held_by None None = None
+held_by (Some i) None = Some (Left i)
+held_by None (Some j) = Some (Right j)
+held_by (Some i) (Some j) = Some (Both i j)
 
 -- the piece from a to b, as a list: none where no item is open or no byte lies between
 abbrev pub piece_of : ℕ → ℕ → Option RangeWalkResult → List WalkPiece
-piece_of a b none = []
-piece_of a b (some h) = cond (ltb a b) (record { range = range a b; result = h } ∷ []) []
+piece_of a b None = []
+piece_of a b (Some h) = cond (ltb a b) (record { range = range a b; result = h } ∷ []) []
 
 -- from the address a, with i and j boundaries of the two lists passed, through those that are left
 abbrev pub sweep : ℕ → ℕ → ℕ → ℕ → ℕ → List Boundary → List WalkPiece
@@ -76,6 +73,6 @@ abbrev pub walk : List MemoryRange → List MemoryRange → List WalkPiece
 walk ls rs = walk_from ls rs walk_start
 
 -- the pieces that a step's answer stands for: the one it yields and those left at its cursor
-abbrev pub walk_stepped : List MemoryRange → List MemoryRange → WalkStep → List WalkPiece
-walk_stepped ls rs (Piece p c) = p ∷ walk_from ls rs c
-walk_stepped ls rs End = []
+abbrev pub walk_stepped : List MemoryRange → List MemoryRange → Option (WalkPiece × WalkCursor) → List WalkPiece
+walk_stepped ls rs (Some (p, c)) = p ∷ walk_from ls rs c
+walk_stepped ls rs None = []

@@ -1,57 +1,21 @@
 // Touching ranges of one type joined.
 ghost use Rattle.std.specs.Prelude.{◌≡◌, drop};
-ghost use Rattle.memory_range.specs.List.{tagged_of};
-ghost use Rattle.range_lists.specs.Merge.{continued_by, merge_adjacent, merge_stepped};
+ghost use Rattle.range_lists.specs.Merge.{merge_adjacent, merge_stepped};
 
-use memory_range::{MemoryRange, TaggedRange, tagged_count};
+use memory_range::TaggedRange;
 
-// The next joined range and the index behind what it was made of, or that there is none.
-#[derive(Clone, Copy)]
-pub enum MergeStep {
-    Range(TaggedRange, usize),
-    End,
-}
-
-// Whether the range at the index goes on where the given one ends, and has its tag.
-fn continues_at<'a>(
-    starts: &'a [u64],
-    ends: &'a [u64],
-    tags: &'a [u32],
-    at: usize,
-    previous: TaggedRange,
-) -> bool
-    ensures { result ≡ continued_by previous (drop at (tagged_of starts.now ends.now tags.now)) }
+// The range at the index, with the ranges after it that go on where it ends and have its tag; and the
+// index behind what it was made of.
+pub fn merge_adjacent_ranges(ranges: &[TaggedRange], at: usize) -> Option<(TaggedRange, usize)>
+    ensures { merge_adjacent (drop at ranges.now) ≡ merge_stepped ranges.now result }
 {
-    if tagged_count(starts, ends, tags) <= at {
-        return false;
+    let mut joined = *ranges.get(at)?;
+    for next in at + 1..ranges.len() {
+        let range = ranges[next];
+        if joined.range.end != range.range.start || joined.tag != range.tag {
+            return Some((joined, next));
+        }
+        joined.range.end = range.range.end;
     }
-    previous.range.end == starts[at] && previous.tag == tags[at]
-}
-
-// The range at the index, with the ranges after it that go on where it ends and have its tag.
-pub fn merge_adjacent_ranges<'a>(
-    starts: &'a [u64],
-    ends: &'a [u64],
-    tags: &'a [u32],
-    at: usize,
-) -> MergeStep
-    ensures { merge_adjacent (drop at (tagged_of starts.now ends.now tags.now))
-        ≡ merge_stepped (tagged_of starts.now ends.now tags.now) result }
-{
-    if tagged_count(starts, ends, tags) <= at {
-        return MergeStep::End;
-    }
-    let mut joined = TaggedRange {
-        range: MemoryRange {
-            start: starts[at],
-            end: ends[at],
-        },
-        tag: tags[at],
-    };
-    let mut next = at + 1;
-    while continues_at(starts, ends, tags, next, joined) {
-        joined.range.end = ends[next];
-        next += 1;
-    }
-    MergeStep::Range(joined, next)
+    Some((joined, ranges.len()))
 }

@@ -1,10 +1,9 @@
 // What of one list of ranges is in none of another.
-ghost use Rattle.std.specs.Prelude.{◌≡◌};
-ghost use Rattle.memory_range.specs.List.{ranges_of};
+ghost use Rattle.std.specs.Prelude.{◌≡◌, map};
 ghost use Rattle.range_lists.specs.Subtract.{subtract_from, subtract_stepped};
 
-use super::walk::{RangeWalkResult, WalkCursor, WalkStep, walk_ranges};
-use memory_range::MemoryRange;
+use super::walk::{RangeWalkResult, WalkCursor, walk_ranges};
+use memory_range::{HasRange, MemoryRange};
 
 // A part of the first list's item of that index.
 #[derive(Clone, Copy)]
@@ -13,36 +12,24 @@ pub struct Remainder {
     pub item: usize,
 }
 
-// The next part and the cursor behind it, or that there is none.
-#[derive(Clone, Copy)]
-pub enum SubtractStep {
-    Range(Remainder, WalkCursor),
-    End,
-}
-
-// The next part of the left list that is in none of the right list, from the cursor on.
-pub fn subtract_ranges<'a>(
-    left_starts: &'a [u64],
-    left_ends: &'a [u64],
-    right_starts: &'a [u64],
-    right_ends: &'a [u64],
+// The next part of the left list that is in none of the right list, from the cursor on, and the cursor
+// behind it.
+pub fn subtract_ranges<L: HasRange + Copy, R: HasRange + Copy>(
+    left: &[L],
+    right: &[R],
     cursor: WalkCursor,
-) -> SubtractStep
-    ensures { subtract_from (ranges_of left_starts.now left_ends.now) (ranges_of right_starts.now right_ends.now) cursor
-        ≡ subtract_stepped (ranges_of left_starts.now left_ends.now) (ranges_of right_starts.now right_ends.now) result }
+) -> Option<(Remainder, WalkCursor)>
+    ensures { let lefts = map L.range_in left.now in
+        let rights = map R.range_in right.now in
+        subtract_from lefts rights cursor ≡ subtract_stepped lefts rights result }
 {
     let mut at = cursor;
-    loop {
-        match walk_ranges(left_starts, left_ends, right_starts, right_ends, at) {
-            WalkStep::Piece(piece, next) => {
-                let result = piece.result;
-                let range = piece.range;
-                if let RangeWalkResult::Left(item) = result {
-                    return SubtractStep::Range(Remainder { range, item }, next);
-                }
-                at = next;
-            }
-            WalkStep::End => return SubtractStep::End,
+    while let Some((piece, next)) = walk_ranges(left, right, at) {
+        if let RangeWalkResult::Left(item) = piece.result {
+            let range = piece.range;
+            return Some((Remainder { range, item }, next));
         }
+        at = next;
     }
+    None
 }

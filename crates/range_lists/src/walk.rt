@@ -3,12 +3,11 @@
 // A list's boundaries are its items' starts and ends in the order of the items. Boundary k is the
 // start of item k / 2 where k is even, and its end where k is odd; so where k boundaries are passed
 // and k is odd, item k / 2 is open.
-ghost use Rattle.std.specs.Prelude.{◌≡◌, ◌+◌, ◌^◌, ◌<◌, drop};
-ghost use Rattle.memory_range.specs.List.{ranges_of};
-ghost use Rattle.range_lists.specs.Walk.{walk_start, walk_from, walk_stepped, boundaries, is_open};
+ghost use Rattle.std.specs.Prelude.{◌≡◌, ◌+◌, ◌^◌, ◌<◌, drop, map};
+ghost use Rattle.range_lists.specs.Walk.{walk_start, walk_from, walk_stepped, boundaries, open_item, held_by};
 ghost use Rattle.range_lists.specs.WalkStep.{first_of, pass_left, pass_right, passed_by, piece_to};
 
-use memory_range::{MemoryRange, range_count};
+use memory_range::{HasRange, MemoryRange};
 
 // Which item of each list holds a piece.
 #[derive(Clone, Copy)]
@@ -46,163 +45,118 @@ impl WalkCursor {
     }
 }
 
-// The next piece and the cursor behind it, or that there is none.
-#[derive(Clone, Copy)]
-pub enum WalkStep {
-    Piece(WalkPiece, WalkCursor),
-    End,
-}
-
-// The next boundary of a list, or that all are passed.
-#[derive(Clone, Copy)]
-pub(crate) enum NextBoundary {
-    At(u64),
-    Passed,
-}
-
-// The cursor behind the next boundary, or that all are passed.
-#[derive(Clone, Copy)]
-pub(crate) enum Pass {
-    To(WalkCursor),
-    End,
-}
-
-// A piece, or that none lies there.
-#[derive(Clone, Copy)]
-pub(crate) enum Found {
-    Piece(WalkPiece),
-    Nothing,
-}
-
-// Boundary k of a list.
-fn boundary_at<'a>(starts: &'a [u64], ends: &'a [u64], k: usize) -> NextBoundary
-    ensures { result ≡ first_of (drop k (boundaries (ranges_of starts.now ends.now))) }
+// The next boundary of a list, if one is left: boundary k.
+fn boundary_at<R: HasRange + Copy>(list: &[R], k: usize) -> Option<u64>
+    ensures { result ≡ first_of (drop k (boundaries (map R.range_in list.now))) }
 {
-    let i = k / 2;
-    if starts.len() <= i {
-        return NextBoundary::Passed;
-    }
-    if ends.len() <= i {
-        return NextBoundary::Passed;
-    }
+    let range = list.get(k / 2)?.range();
     if k % 2 == 0 {
-        return NextBoundary::At(starts[i]);
+        return Some(range.start);
     }
-    NextBoundary::At(ends[i])
+    Some(range.end)
 }
 
 // The cursor behind the next boundary of the left list, which is at this address.
-fn pass_left(cursor: WalkCursor, at: u64) -> Pass
+fn pass_left(cursor: WalkCursor, at: u64) -> WalkCursor
     requires { cursor.left + 1 < 2 ^ 64 }
     ensures { result ≡ pass_left cursor at }
 {
-    Pass::To(WalkCursor {
+    WalkCursor {
         at,
         left: cursor.left + 1,
-        right: cursor.right,
-    })
+        ..cursor
+    }
 }
 
-fn pass_right(cursor: WalkCursor, at: u64) -> Pass
+fn pass_right(cursor: WalkCursor, at: u64) -> WalkCursor
     requires { cursor.right + 1 < 2 ^ 64 }
     ensures { result ≡ pass_right cursor at }
 {
-    Pass::To(WalkCursor {
+    WalkCursor {
         at,
-        left: cursor.left,
         right: cursor.right + 1,
-    })
-}
-
-// Passes the lower of the two next boundaries; of two alike, that of the left list.
-fn pass_next<'a>(
-    left_starts: &'a [u64],
-    left_ends: &'a [u64],
-    right_starts: &'a [u64],
-    right_ends: &'a [u64],
-    cursor: WalkCursor,
-) -> Pass
-    ensures { result ≡ passed_by (ranges_of left_starts.now left_ends.now) (ranges_of right_starts.now right_ends.now) cursor }
-{
-    let next_left = boundary_at(left_starts, left_ends, cursor.left);
-    let next_right = boundary_at(right_starts, right_ends, cursor.right);
-    match next_left {
-        NextBoundary::At(a) => match next_right {
-            NextBoundary::At(b) => {
-                if a <= b {
-                    return pass_left(cursor, a);
-                }
-                pass_right(cursor, b)
-            }
-            NextBoundary::Passed => pass_left(cursor, a),
-        },
-        NextBoundary::Passed => match next_right {
-            NextBoundary::At(b) => pass_right(cursor, b),
-            NextBoundary::Passed => Pass::End,
-        },
+        ..cursor
     }
 }
 
-// Whether an item of a list of count items is open where so many of its boundaries are passed.
-fn is_open(count: usize, passed: usize) -> bool
-    ensures { result ≡ is_open count passed }
+// Passes the lower of the two next boundaries; of two alike, that of the left list. None where all are
+// passed.
+fn pass_next<L: HasRange + Copy, R: HasRange + Copy>(
+    left: &[L],
+    right: &[R],
+    cursor: WalkCursor,
+) -> Option<WalkCursor>
+    ensures { result ≡ passed_by (map L.range_in left.now) (map R.range_in right.now) cursor }
 {
-    passed % 2 == 1 && passed / 2 < count
+    let next_left = boundary_at(left, cursor.left);
+    let next_right = boundary_at(right, cursor.right);
+    match (next_left, next_right) {
+        (Some(a), Some(b)) if b < a => Some(pass_right(cursor, b)),
+        (Some(a), _) => Some(pass_left(cursor, a)),
+        (None, Some(b)) => Some(pass_right(cursor, b)),
+        (None, None) => None,
+    }
+}
+
+// Which item of a list of count items is open where so many of its boundaries are passed.
+fn open_item(count: usize, passed: usize) -> Option<usize>
+    ensures { result ≡ open_item count passed }
+{
+    if passed % 2 == 1 && passed / 2 < count {
+        return Some(passed / 2);
+    }
+    None
+}
+
+// What a piece says, from the open item of each list.
+fn held_by(left: Option<usize>, right: Option<usize>) -> Option<RangeWalkResult>
+    ensures { result ≡ held_by left right }
+{
+    match (left, right) {
+        (Some(i), Some(j)) => Some(RangeWalkResult::Both(i, j)),
+        (Some(i), None) => Some(RangeWalkResult::Left(i)),
+        (None, Some(j)) => Some(RangeWalkResult::Right(j)),
+        (None, None) => None,
+    }
 }
 
 // The piece from the cursor up to an address, with the items that are open there.
-fn piece_to(left_count: usize, right_count: usize, cursor: WalkCursor, end: u64) -> Found
+fn piece_to(
+    left_count: usize,
+    right_count: usize,
+    cursor: WalkCursor,
+    end: u64,
+) -> Option<WalkPiece>
     ensures { result ≡ piece_to left_count right_count cursor end }
 {
     let start = cursor.at;
+    let left = open_item(left_count, cursor.left);
+    let result = held_by(left, open_item(right_count, cursor.right))?;
     if end <= start {
-        return Found::Nothing;
+        return None;
     }
-    let range = MemoryRange { start, end };
-    let left = cursor.left;
-    let right = cursor.right;
-    if is_open(left_count, left) {
-        if is_open(right_count, right) {
-            return Found::Piece(WalkPiece {
-                range,
-                result: RangeWalkResult::Both(left / 2, right / 2),
-            });
-        }
-        return Found::Piece(WalkPiece {
-            range,
-            result: RangeWalkResult::Left(left / 2),
-        });
-    }
-    if is_open(right_count, right) {
-        return Found::Piece(WalkPiece {
-            range,
-            result: RangeWalkResult::Right(right / 2),
-        });
-    }
-    Found::Nothing
+    Some(WalkPiece {
+        range: MemoryRange { start, end },
+        result,
+    })
 }
 
-// The next piece from the cursor on. Pieces that no item holds are passed over.
-pub fn walk_ranges<'a>(
-    left_starts: &'a [u64],
-    left_ends: &'a [u64],
-    right_starts: &'a [u64],
-    right_ends: &'a [u64],
+// The next piece from the cursor on, and the cursor behind it. Pieces that no item holds are passed over.
+pub fn walk_ranges<L: HasRange + Copy, R: HasRange + Copy>(
+    left: &[L],
+    right: &[R],
     cursor: WalkCursor,
-) -> WalkStep
-    ensures { walk_from (ranges_of left_starts.now left_ends.now) (ranges_of right_starts.now right_ends.now) cursor
-        ≡ walk_stepped (ranges_of left_starts.now left_ends.now) (ranges_of right_starts.now right_ends.now) result }
+) -> Option<(WalkPiece, WalkCursor)>
+    ensures { let lefts = map L.range_in left.now in
+        let rights = map R.range_in right.now in
+        walk_from lefts rights cursor ≡ walk_stepped lefts rights result }
 {
-    let left_count = range_count(left_starts, left_ends);
-    let right_count = range_count(right_starts, right_ends);
     let mut at = cursor;
-    loop {
-        match pass_next(left_starts, left_ends, right_starts, right_ends, at) {
-            Pass::To(next) => match piece_to(left_count, right_count, at, next.at) {
-                Found::Piece(piece) => return WalkStep::Piece(piece, next),
-                Found::Nothing => at = next,
-            },
-            Pass::End => return WalkStep::End,
+    while let Some(next) = pass_next(left, right, at) {
+        if let Some(piece) = piece_to(left.len(), right.len(), at, next.at) {
+            return Some((piece, next));
         }
+        at = next;
     }
+    None
 }

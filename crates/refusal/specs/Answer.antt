@@ -1,17 +1,13 @@
 -- A refusal, if there is one, as the answer of a function.
-use Rattle.std.specs.Prelude.{ℕ}
-use Rattle.std.proofs.Math.Option.{Option, none, some}
-use Rattle.refusal.specs.declared.answer.Counted.{Counted}
-use Rattle.refusal.specs.declared.answer.Counted.TheVariants as counted
-use Rattle.refusal.specs.declared.answer.Rows.{Rows}
-use Rattle.refusal.specs.declared.answer.Rows.TheVariants as rows
+use Rattle.std.specs.Prelude.{ℕ, Option, Some, None, Result, Ok, Err}
+use Rattle.refusal.specs.declared.Refusal.{Refusal}
 
 -- or a count
-abbrev pub counted_as : Option ℕ → ℕ → Counted
-counted_as none n = counted.Count n
-counted_as (some r) n = counted.Refused r
+abbrev pub counted_as : Option Refusal → ℕ → Result ℕ Refusal
+counted_as None n = Ok n
+counted_as (Some r) n = Err r
 
 -- or that the rows are passed
-abbrev pub rows_as : Option ℕ → Rows
-rows_as none = rows.Passed
-rows_as (some n) = rows.Refused n
+abbrev pub rows_as : Option Refusal → Result (Unit {0}) Refusal
+rows_as None = Ok tt
+rows_as (Some r) = Err r

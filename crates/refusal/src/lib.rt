@@ -1,129 +1,136 @@
-// The numbers of the planner's refusals, and when each is given (docs/SPEC.md, section 1). They are
-// looked at in the order of the chart there. Every other crate names them by these constants, and
-// its contracts by the names of specs/Number.antt; `numbers` is proved to be the one list of the
-// other, so that the two cannot part.
+// The planner's refusals (docs/SPEC.md, section 1). The rows of the chart there are looked at in its
+// order. Every other crate refuses with a `Refusal` in a `Result`, and contracts name one as
+// specs/Number.antt does; the numbers are what a plan's text and the calls from C tell.
 #![tactic(auto)]
 
 ghost use Rattle.std.specs.Prelude.{◌≡◌};
-ghost use Rattle.refusal.specs.Number.{all};
+ghost use Rattle.refusal.specs.Number.{all, number_of};
 
-mod answer;
+// Why there is no plan, no table or no range, with the number that the documents give it.
+#[derive(Clone, Copy, PartialEq, Eq)]
+pub enum Refusal {
+    // The text.
 
-pub use answer::{Counted, Rows};
+    // A line of the text breaks its form.
+    LineMalformed = 1,
+    // A record is missing, repeated or out of order.
+    RecordOrder = 2,
+    // The text has more than 65,536 bytes; looked at before 1 and 2.
+    TextTooLong = 3,
 
-// The text.
+    // Ranges.
 
-// A line of the text breaks its form.
-pub const LINE_MALFORMED: u8 = 1;
-// A record is missing, repeated or out of order.
-pub const RECORD_ORDER: u8 = 2;
-// The text has more than 65,536 bytes; looked at before 1 and 2.
-pub const TEXT_TOO_LONG: u8 = 3;
+    // A range's start is not below its end, or one of them is no page multiple.
+    RangeInvalid = 4,
+    // The map, the imported ranges or the RAM list do not ascend or are not disjoint; touching is
+    // allowed.
+    RangesNotAscending = 5,
 
-// Ranges.
+    // Selection.
 
-// A range's start is not below its end, or one of them is no page multiple.
-pub const RANGE_INVALID: u8 = 4;
-// The map, the imported ranges or the RAM list do not ascend or are not disjoint; touching is
-// allowed.
-pub const RANGES_NOT_ASCENDING: u8 = 5;
+    // The map has more than 1,024 entries, there are more than 256 imported ranges, or boot mode has
+    // no map.
+    MapCount = 6,
+    // Boot mode: the map has more than 64 nodes, or a node's number is not below their count.
+    NodeNumbers = 7,
+    // Boot mode: a RAM size is given and is below the file's length.
+    RamSizeBelowFile = 8,
+    // A node's share, or the end of an isolated guest's range, is above 2^64 - 4,096.
+    ShareTooLarge = 9,
+    // Boot mode: a piece of the file lies in no map entry.
+    FileNotInMap = 10,
+    // Boot mode: an imported range overlaps the file and does not lie inside it.
+    ImportCrossesFile = 11,
+    // Boot mode: a piece of an imported range lies in no map entry, and is not the one page from
+    // fffff000 of a Tdx guest.
+    ImportNotInMap = 12,
+    // Boot mode: a node's free bytes are fewer than it needs.
+    NodeTooSmall = 13,
+    // A 65th piece would be chosen, or a 1,025th free piece found.
+    TooManyPieces = 14,
 
-// Selection.
+    // The builder.
 
-// The map has more than 1,024 entries, there are more than 256 imported ranges, or boot mode has
-// no map.
-pub const MAP_COUNT: u8 = 6;
-// Boot mode: the map has more than 64 nodes, or a node's number is not below their count.
-pub const NODE_NUMBERS: u8 = 7;
-// Boot mode: a RAM size is given and is below the file's length.
-pub const RAM_SIZE_BELOW_FILE: u8 = 8;
-// A node's share, or the end of an isolated guest's range, is above 2^64 - 4,096.
-pub const SHARE_TOO_LARGE: u8 = 9;
-// Boot mode: a piece of the file lies in no map entry.
-pub const FILE_NOT_IN_MAP: u8 = 10;
-// Boot mode: an imported range overlaps the file and does not lie inside it.
-pub const IMPORT_CROSSES_FILE: u8 = 11;
-// Boot mode: a piece of an imported range lies in no map entry, and is not the one page from
-// fffff000 of a Tdx guest.
-pub const IMPORT_NOT_IN_MAP: u8 = 12;
-// Boot mode: a node's free bytes are fewer than it needs.
-pub const NODE_TOO_SMALL: u8 = 13;
-// A 65th piece would be chosen, or a 1,025th free piece found.
-pub const TOO_MANY_PIECES: u8 = 14;
+    // The RAM list has more than 64 entries.
+    RamCount = 15,
+    // The table to build into is not empty.
+    TableNotEmpty = 16,
+    // There are more than 20 reserved ranges.
+    ReservedCount = 17,
+    // Two reserved ranges overlap.
+    ReservedOverlap = 18,
+    // A byte of a reserved range lies outside the used range.
+    ReservedOutsideUsed = 19,
+    // There are more than 64 pool ranges, one overlaps another or the used range, or they and the used
+    // pieces are more than 84.
+    PoolRanges = 20,
+    // A byte of the used range or of a pool range lies outside the RAM.
+    UsedOutsideRam = 21,
 
-// The builder.
+    // A request.
 
-// The RAM list has more than 64 entries.
-pub const RAM_COUNT: u8 = 15;
-// The table to build into is not empty.
-pub const TABLE_NOT_EMPTY: u8 = 16;
-// There are more than 20 reserved ranges.
-pub const RESERVED_COUNT: u8 = 17;
-// Two reserved ranges overlap.
-pub const RESERVED_OVERLAP: u8 = 18;
-// A byte of a reserved range lies outside the used range.
-pub const RESERVED_OUTSIDE_USED: u8 = 19;
-// There are more than 64 pool ranges, one overlaps another or the used range, or they and the used
-// pieces are more than 84.
-pub const POOL_RANGES: u8 = 20;
-// A byte of the used range or of a pool range lies outside the RAM.
-pub const USED_OUTSIDE_RAM: u8 = 21;
+    // The length is 0.
+    LengthZero = 22,
+    // The length is above 2^64 - 4,096.
+    LengthTooLarge = 23,
+    // The alignment is no power of two.
+    AlignmentInvalid = 24,
+    // No entry fits.
+    NoFit = 25,
+    // Splitting the chosen entry would give more than 256 entries.
+    TableFull = 26,
 
-// A request.
+    // The private pool.
 
-// The length is 0.
-pub const LENGTH_ZERO: u8 = 22;
-// The length is above 2^64 - 4,096.
-pub const LENGTH_TOO_LARGE: u8 = 23;
-// The alignment is no power of two.
-pub const ALIGNMENT_INVALID: u8 = 24;
-// No entry fits.
-pub const NO_FIT: u8 = 25;
-// Splitting the chosen entry would give more than 256 entries.
-pub const TABLE_FULL: u8 = 26;
+    // 2^52 pages or more are asked for.
+    PoolTooLarge = 27,
+    // The pool is split, and the table has no node or more nodes than there are pages.
+    PoolSplit = 28,
+    // The pool is split, and a node has no entry that fits its piece.
+    PoolNodeNoFit = 29,
+}
 
-// The private pool.
+impl Refusal {
+    pub fn number(self) -> u8
+        ensures { result ≡ number_of self }
+    {
+        self as u8
+    }
+}
 
-// 2^52 pages or more are asked for.
-pub const POOL_TOO_LARGE: u8 = 27;
-// The pool is split, and the table has no node or more nodes than there are pages.
-pub const POOL_SPLIT: u8 = 28;
-// The pool is split, and a node has no entry that fits its piece.
-pub const POOL_NODE_NO_FIT: u8 = 29;
-
-// All of them, in order.
+// The numbers of all of them, in order.
 pub fn numbers() -> [u8; 29]
     ensures { result ≡ all }
 {
     [
-        LINE_MALFORMED,
-        RECORD_ORDER,
-        TEXT_TOO_LONG,
-        RANGE_INVALID,
-        RANGES_NOT_ASCENDING,
-        MAP_COUNT,
-        NODE_NUMBERS,
-        RAM_SIZE_BELOW_FILE,
-        SHARE_TOO_LARGE,
-        FILE_NOT_IN_MAP,
-        IMPORT_CROSSES_FILE,
-        IMPORT_NOT_IN_MAP,
-        NODE_TOO_SMALL,
-        TOO_MANY_PIECES,
-        RAM_COUNT,
-        TABLE_NOT_EMPTY,
-        RESERVED_COUNT,
-        RESERVED_OVERLAP,
-        RESERVED_OUTSIDE_USED,
-        POOL_RANGES,
-        USED_OUTSIDE_RAM,
-        LENGTH_ZERO,
-        LENGTH_TOO_LARGE,
-        ALIGNMENT_INVALID,
-        NO_FIT,
-        TABLE_FULL,
-        POOL_TOO_LARGE,
-        POOL_SPLIT,
-        POOL_NODE_NO_FIT,
+        Refusal::LineMalformed.number(),
+        Refusal::RecordOrder.number(),
+        Refusal::TextTooLong.number(),
+        Refusal::RangeInvalid.number(),
+        Refusal::RangesNotAscending.number(),
+        Refusal::MapCount.number(),
+        Refusal::NodeNumbers.number(),
+        Refusal::RamSizeBelowFile.number(),
+        Refusal::ShareTooLarge.number(),
+        Refusal::FileNotInMap.number(),
+        Refusal::ImportCrossesFile.number(),
+        Refusal::ImportNotInMap.number(),
+        Refusal::NodeTooSmall.number(),
+        Refusal::TooManyPieces.number(),
+        Refusal::RamCount.number(),
+        Refusal::TableNotEmpty.number(),
+        Refusal::ReservedCount.number(),
+        Refusal::ReservedOverlap.number(),
+        Refusal::ReservedOutsideUsed.number(),
+        Refusal::PoolRanges.number(),
+        Refusal::UsedOutsideRam.number(),
+        Refusal::LengthZero.number(),
+        Refusal::LengthTooLarge.number(),
+        Refusal::AlignmentInvalid.number(),
+        Refusal::NoFit.number(),
+        Refusal::TableFull.number(),
+        Refusal::PoolTooLarge.number(),
+        Refusal::PoolSplit.number(),
+        Refusal::PoolNodeNoFit.number(),
     ]
 }

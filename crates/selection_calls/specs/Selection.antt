@@ -1,31 +1,27 @@
 -- Selection by numbers and words, and its answer in words (docs/SPEC.md, section 19).
-use Rattle.std.specs.Prelude.{ℕ, ◌*◌, ◌%◌, ◌^◌, ◌≡◌, Bool, true, false, cond, not, ◌&&◌, List, [], ◌∷◌, ◌++◌, eqb, leb, ltb, length, drop}
-use Rattle.std.proofs.Math.Option.{Option, none}
+use Rattle.std.specs.Prelude.{ℕ, ◌*◌, ◌%◌, ◌^◌, Bool, true, false, cond, not, ◌&&◌, List, [], ◌∷◌, ◌++◌, eqb, leb, ltb, length, drop, Option, None, Ok, Err}
 use Rattle.refusal.specs.Number.{range_invalid, ranges_not_ascending}
-use Rattle.refusal.specs.Rows.{refused_if, downward, unless}
+use Rattle.refusal.specs.Rows.{refused_if, downward}
 use Rattle.memory_range.specs.declared.range.MemoryRange.{MemoryRange}
 use Rattle.memory_range.specs.declared.range.TaggedRange.{TaggedRange}
 use Rattle.memory_range.specs.Range.{range}
-use Rattle.memory_range.specs.List.{first_tagged}
 use Rattle.memory_range.specs.Valid.{valid_range}
 use Rattle.host_params.specs.declared.IsolationType.{IsolationType}
 use Rattle.host_params.specs.declared.IsolationType.TheVariants as isolation
 use Rattle.host_params.specs.declared.MemoryAllocationMode.{MemoryAllocationMode}
 use Rattle.host_params.specs.declared.MemoryAllocationMode.TheVariants.{Host, Vtl2}
 use Rattle.host_params.specs.declared.MemoryEntry.{MemoryEntry}
-use Rattle.host_params.specs.declared.OptionU64.{OptionU64}
 use Rattle.host_map.specs.declared.rows.RangeCheck.{RangeCheck}
 use Rattle.host_map.specs.Map.{type_of, map_ranges}
 use Rattle.host_map.specs.Rows.{check_start, checked_all}
 use Rattle.boot_ram.specs.Verdict.{max_chosen}
-use Rattle.vtl2_ram.specs.declared.ram.Selection.{Selection}
-use Rattle.vtl2_ram.specs.declared.ram.Selection.TheVariants.{Chosen, Refused}
-use Rattle.vtl2_ram.specs.declared.ram.Vtl2Ram.{Vtl2Ram}
 use Rattle.vtl2_ram.specs.Choice.{Choice, refused, chosen}
 use Rattle.vtl2_ram.specs.Select.{choice}
 use Rattle.plan_input.specs.Room.{map_room, import_room}
-use Rattle.table_words.specs.Code.{done_code, no_room, bad_number}
+use Rattle.table_words.specs.Code.{Call}
+use Rattle.table_words.specs.declared.code.CallError.TheVariants.{Refused, NoRoom, BadNumber}
 use Rattle.table_words.specs.List.{ranges_in}
+use Rattle.refusal.specs.declared.Refusal.{Refusal}
 
 -- who chooses: 0 is the host, 1 the boot shim
 abbrev pub mode_of : ℕ → MemoryAllocationMode
@@ -77,51 +73,36 @@ ram_words (x ∷ xs) = x.range.start ∷ x.range.end ∷ x.tag ∷ ram_words xs
 abbrev pub ram_size_of : ℕ
 ram_size_of = max_chosen * 3
 
+-- a choice as a call's answer
+abbrev pub chosen_as : Choice → Call (List TaggedRange)
+chosen_as (refused r) = Err (Refused r)
+chosen_as (chosen xs) = Ok xs
+
 -- what a selection that is asked for in numbers comes to: that there is no room, that a number stands for nothing, or what
 -- selection comes to
-unfoldable pub asked : ℕ → ℕ → OptionU64 → MemoryRange → List ℕ → List ℕ → List ℕ → Choice
+unfoldable pub asked : ℕ → ℕ → Option ℕ → MemoryRange → List ℕ → List ℕ → List ℕ → Call (List TaggedRange)
 asked mode isolation size file map imports ram =
-    unless refused
-    (downward
-    (refused_if (ltb (length ram) ram_size_of) no_room ∷ refused_if (not (numbers_stand mode isolation map imports)) bad_number ∷ []))
-    (choice (mode_of mode) (isolation_of isolation) size file (word_entries map) (ranges_in imports))
+    cond (ltb (length ram) ram_size_of) (Err NoRoom)
+    (cond (not (numbers_stand mode isolation map imports)) (Err BadNumber)
+    (chosen_as (choice (mode_of mode) (isolation_of isolation) size file (word_entries map) (ranges_in imports))))
 
--- the number of an answer
-abbrev pub choice_code : Choice → ℕ
-choice_code (refused n) = n
-choice_code (chosen xs) = done_code
+-- how many entries there are
+abbrev pub count_of : Call (List TaggedRange) → Call ℕ
+count_of (Err e) = Err e
+count_of (Ok xs) = Ok (length xs)
 
 -- the lent RAM afterwards: as found, or the entries' words at its start and behind them as found
-abbrev pub ram_after : Choice → List ℕ → List ℕ
-ram_after (refused n) ram = ram
-ram_after (chosen xs) ram = ram_words xs ++ drop (length (ram_words xs)) ram
+abbrev pub ram_after : Call (List TaggedRange) → List ℕ → List ℕ
+ram_after (Err e) ram = ram
+ram_after (Ok xs) ram = ram_words xs ++ drop (length (ram_words xs)) ram
 
 -- how many entries there are, or what was there before
-abbrev pub count_or : Choice → ℕ → ℕ
-count_or (refused n) before = before
-count_or (chosen xs) before = length xs
-
--- all three
-pub record Told (c : Choice) (ram ram' : List ℕ) (count count' r : ℕ) : Type 0 where
-  pub answer : r ≡ choice_code c
-  pub lent : ram' ≡ ram_after c ram
-  pub stored : count' ≡ count_or c count
-
--- what selection comes to, as its answer holds it
-abbrev pub held_as : Selection → List ℕ → List ℕ → List ℕ → Choice
-held_as (Refused n) ss es ns = refused n
-held_as (Chosen n bytes) ss es ns = chosen (first_tagged n ss es ns)
-
-abbrev pub choice_in : Vtl2Ram → Choice
-choice_in r = held_as r.selection r.starts r.ends r.nodes
-
--- how many entries an answer has
-abbrev pub count_in : Selection → ℕ
-count_in (Refused n) = 0
-count_in (Chosen n bytes) = n
+abbrev pub count_or : Call (List TaggedRange) → ℕ → ℕ
+count_or (Err e) before = before
+count_or (Ok xs) before = length xs
 
 -- rows 4 and 5, by what was seen of the map and of the imported ranges
-abbrev pub rows_of : MemoryRange → RangeCheck → RangeCheck → Option ℕ
+abbrev pub rows_of : MemoryRange → RangeCheck → RangeCheck → Option Refusal
 rows_of file map imports =
     downward
     (refused_if (not (valid_range file && map.valid && imports.valid)) range_invalid
@@ -129,7 +110,7 @@ rows_of file map imports =
     ∷ [])
 
 -- the same of both lists as words, where one is longer than its room; otherwise selection looks at these rows itself
-abbrev pub rows_long : MemoryRange → List ℕ → List ℕ → Option ℕ
+abbrev pub rows_long : MemoryRange → List ℕ → List ℕ → Option Refusal
 rows_long file map imports =
-    cond (leb (length map) (map_room * 4) && leb (length imports) (import_room * 2)) none
+    cond (leb (length map) (map_room * 4) && leb (length imports) (import_room * 2)) None
     (rows_of file (checked_all check_start (map_ranges (word_entries map))) (checked_all check_start (ranges_in imports)))

@@ -1,18 +1,19 @@
 -- What a build is given, as words (docs/SPEC.md, section 31).
-use Rattle.std.specs.Prelude.{ℕ, ◌/◌, ◌%◌, Bool, cond, ◌&&◌, List, eqb, leb, length, get_or}
+use Rattle.std.specs.Prelude.{ℕ, ◌/◌, ◌%◌, Bool, cond, ◌&&◌, ◌||◌, List, eqb, leb, length, get_or, Option, Some, None, Ok, Err}
 use Rattle.memory_range.specs.declared.range.MemoryRange.{MemoryRange}
 use Rattle.memory_range.specs.Range.{range}
 use Rattle.memory.specs.declared.builder.AddressSpaceManagerBuilder.{AddressSpaceManagerBuilder}
-use Rattle.memory.specs.declared.builder.OptionRange.{OptionRange}
-use Rattle.memory.specs.declared.builder.OptionRange.TheVariants as option
-use Rattle.memory.specs.Build.{Build, build}
+use Rattle.memory.specs.Build.{Build, build, has_pool}
 use Rattle.memory.specs.Build as outcome
-use Rattle.table_words.specs.Code.{bad_number}
+use Rattle.table_words.specs.declared.code.CallError.TheVariants.{Refused, BadNumber}
+use Rattle.table_words.specs.Code.{Call}
+use Rattle.table_words.specs.Table.{Table, table, table_in}
+use Rattle.address_space.specs.declared.table.AddressSpaceManager.{AddressSpaceManager}
 use Rattle.table_words.specs.List.{ranges_in, ram_rows, rams_in, nodes_good}
 
 -- a range that is 0 to 0 is absent
-abbrev pub option_of : ℕ → ℕ → OptionRange
-option_of s e = cond (eqb s 0 && eqb e 0) option.None (option.Some (range s e))
+abbrev pub option_of : ℕ → ℕ → Option MemoryRange
+option_of s e = cond (eqb s 0 && eqb e 0) None (Some (range s e))
 
 -- the single ranges; the optional ones are two words each: reserved range, sidecar image, page tables, log buffer
 abbrev pub builder_of : MemoryRange → MemoryRange → List ℕ → AddressSpaceManagerBuilder
@@ -38,9 +39,20 @@ abbrev pub given_good : List ℕ → List ℕ → List ℕ → List ℕ → Bool
 given_good ram reserved configs pools =
     list_good 3 ram && (eqb (length reserved) 8 && (list_good 2 configs && (list_good 2 pools && nodes_good (ram_rows ram))))
 
--- what a build from words comes to, on a table of so many entries
-abbrev pub words_build : MemoryRange → MemoryRange → ℕ → List ℕ → List ℕ → List ℕ → List ℕ → Build
-words_build used state count ram reserved configs pools =
+-- a build as a call: the table, and its flag set where there are pool ranges
+abbrev pub built_call : Bool → Build → Call Table
+built_call flag (outcome.refused r) = Err (Refused r)
+built_call flag (outcome.built es) = Ok (table es flag)
+
+-- what a build from words comes to, on such a table
+abbrev pub words_build : MemoryRange → MemoryRange → Table → List ℕ → List ℕ → List ℕ → List ℕ → Call Table
+words_build used state t ram reserved configs pools =
     cond (given_good ram reserved configs pools)
-    (build (builder_of used state reserved) count (rams_in ram) (ranges_in configs) (ranges_in pools))
-    (outcome.refused bad_number)
+    (built_call (t.flag || has_pool (ranges_in pools))
+    (build (builder_of used state reserved) (length t.entries) (rams_in ram) (ranges_in configs) (ranges_in pools)))
+    (Err BadNumber)
+
+-- what an answer stands for
+abbrev pub built_in : Call AddressSpaceManager → Call Table
+built_in (Err e) = Err e
+built_in (Ok m) = Ok (table_in m)

@@ -3,27 +3,27 @@ ghost use Rattle.std.specs.Prelude.{◌≡◌, ◌<◌, length};
 ghost use Rattle.address_space.specs.Table.{entries_of};
 ghost use Rattle.memory.specs.Build.{build, has_pool, init_as};
 ghost use Rattle.table_words.specs.List.{ranges_in, rams_in};
-ghost use Rattle.table_calls.specs.Build.{option_of, builder_of, list_good, given_good, words_build};
+ghost use Rattle.table_words.specs.Table.{table_in};
+ghost use Rattle.table_calls.specs.Build.{option_of, builder_of, list_good, given_good, words_build, built_in};
 ghost use Rattle.table_calls.specs.Laws.Build.{Lists};
 
 use address_space::AddressSpaceManager;
-use memory::{AddressSpaceManagerBuilder, Init, Initialized, OptionRange};
-use memory_range::MemoryRange;
-use table_words::{BOOTPLAN_BAD_NUMBER, nodes_good, read_ram, read_ranges};
+use memory::{AddressSpaceManagerBuilder, Init};
+use memory_range::{MemoryRange, TaggedRange};
+use table_words::{CallError, nodes_good, read_ram, read_ranges};
 
 // At most so many items of a list are taken. This is above the bounds of rows 15, 17 and 20, so that a
 // list that is too long for its row is refused by it, and rows 4 and 5 before it.
 const LIST_ROOM: usize = 128;
 
-fn option_of(start: u64, end: u64) -> OptionRange
+// 0 to 0 is absent.
+fn option_of(start: u64, end: u64) -> Option<MemoryRange>
     ensures { result ≡ option_of start end }
 {
-    if start == 0 {
-        if end == 0 {
-            return OptionRange::None;
-        }
+    if start == 0 && end == 0 {
+        return None;
     }
-    OptionRange::Some(MemoryRange { start, end })
+    Some(MemoryRange { start, end })
 }
 
 fn builder_of(used: MemoryRange, state: MemoryRange, reserved: &[u64]) -> AddressSpaceManagerBuilder
@@ -50,19 +50,9 @@ fn list_good(words: &[u64], width: usize) -> bool
 fn given_good(ram: &[u64], reserved: &[u64], configs: &[u64], pools: &[u64]) -> bool
     ensures { result ≡ given_good ram.now reserved.now configs.now pools.now }
 {
-    if !list_good(ram, 3) {
-        return false;
-    }
-    if reserved.len() != 8 {
-        return false;
-    }
-    if !list_good(configs, 2) {
-        return false;
-    }
-    if !list_good(pools, 2) {
-        return false;
-    }
-    nodes_good(ram)
+    list_good(ram, 3)
+        && (reserved.len() == 8
+            && (list_good(configs, 2) && (list_good(pools, 2) && nodes_good(ram))))
 }
 
 // The lists are read into arrays, which the builder is lent.
@@ -78,32 +68,25 @@ fn build_lists(
         let built = build builder (length (entries_of manager)) (rams_in ram.now) (ranges_in configs.now) pool_ranges in
         result ≡ init_as manager (has_pool pool_ranges) built }
 {
-    let mut ram_starts = [0; LIST_ROOM];
-    let mut ram_ends = [0; LIST_ROOM];
-    let mut ram_nodes = [0; LIST_ROOM];
-    read_ram(ram, &mut ram_starts, &mut ram_ends, &mut ram_nodes);
-    let mut config_starts = [0; LIST_ROOM];
-    let mut config_ends = [0; LIST_ROOM];
-    read_ranges(configs, &mut config_starts, &mut config_ends);
-    let mut pool_starts = [0; LIST_ROOM];
-    let mut pool_ends = [0; LIST_ROOM];
-    read_ranges(pools, &mut pool_starts, &mut pool_ends);
-    let count = ram.len() / 3;
-    let config_count = configs.len() / 2;
-    let pool_count = pools.len() / 2;
+    let none = MemoryRange { start: 0, end: 0 };
+    let mut ram_list = [TaggedRange {
+        range: none,
+        tag: 0,
+    }; LIST_ROOM];
+    read_ram(ram, &mut ram_list);
+    let mut config_list = [none; LIST_ROOM];
+    read_ranges(configs, &mut config_list);
+    let mut pool_list = [none; LIST_ROOM];
+    read_ranges(pools, &mut pool_list);
     builder.init(
         manager,
-        &ram_starts[..count],
-        &ram_ends[..count],
-        &ram_nodes[..count],
-        &config_starts[..config_count],
-        &config_ends[..config_count],
-        &pool_starts[..pool_count],
-        &pool_ends[..pool_count],
+        &ram_list[..ram.len() / 3],
+        &config_list[..configs.len() / 2],
+        &pool_list[..pools.len() / 2],
     )
 }
 
-// Words that stand for nothing are refused, which leaves the table.
+// The table that is built.
 pub fn build_words(
     used: MemoryRange,
     state: MemoryRange,
@@ -112,17 +95,14 @@ pub fn build_words(
     reserved: &[u64],
     configs: &[u64],
     pools: &[u64],
-) -> Init
-    ensures { let count = length (entries_of manager) in
-        let built = words_build used state count ram.now reserved.now configs.now pools.now in
-        result ≡ init_as manager (has_pool (ranges_in pools.now)) built }
+) -> Result<AddressSpaceManager, CallError>
+    ensures { built_in result ≡ words_build used state (table_in manager) ram.now reserved.now configs.now pools.now }
 {
     if !given_good(ram, reserved, configs, pools) {
-        return Init {
-            answer: Initialized::Refused(BOOTPLAN_BAD_NUMBER),
-            manager,
-        };
+        return Err(CallError::BadNumber);
     }
     let builder = builder_of(used, state, reserved);
-    build_lists(builder, manager, ram, configs, pools)
+    let init = build_lists(builder, manager, ram, configs, pools);
+    init.answer?;
+    Ok(init.manager)
 }

@@ -6,7 +6,7 @@ ghost use Rattle.address_space.specs.Table.{entries_of};
 ghost use Rattle.table_calls.specs.Ranges.{ranges_words};
 
 use address_space::{AddressSpaceManager, type_number};
-use table_words::put_three;
+use table_words::put_words;
 
 // Three words for each range; a table has no more ranges than entries.
 pub const RANGES_ROOM: usize = 768;
@@ -18,19 +18,16 @@ pub fn write_vtl2_ranges(words: &mut [u64], manager: AddressSpaceManager) -> usi
         (result ≡ length ranges) × (words.new ≡ sets words.old 0 (ranges_words ranges)) }
 {
     let list = manager.all_vtl2_ranges();
-    let count = list.count;
-    let mut i = 0;
-    while i < count {
-        let found = list.ranges[i];
-        let vtl_type = found.vtl_type;
-        put_three(
+    for (i, found) in list.ranges[..list.count].iter().enumerate() {
+        put_words(
             words,
             3 * i,
-            found.range.start,
-            found.range.end,
-            type_number(vtl_type) as u64,
+            &[
+                found.range.start,
+                found.range.end,
+                u64::from(type_number(found.vtl_type)),
+            ],
         );
-        i += 1;
     }
-    count
+    list.count
 }

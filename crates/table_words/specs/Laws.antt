@@ -1,4 +1,5 @@
 pub mod Back
+pub mod Chunks
 pub mod List
 pub mod Rows
 pub mod Stores

@@ -1,6 +1,6 @@
 // The typed address table as a slice of words, for callers that lend it so: its count of entries, its
-// flag, and four words for each entry. Every bit pattern of the words is taken. And the numbers that the
-// calls of the library answer.
+// flag, and four words for each entry. Every bit pattern of the words is taken. And what the calls of the
+// library come to, with the numbers that C is told.
 #![tactic(auto)]
 
 mod code;
@@ -10,8 +10,7 @@ mod read;
 mod usage;
 mod write;
 
-pub use code::{BOOTPLAN_BAD_NUMBER, BOOTPLAN_BAD_TABLE, BOOTPLAN_DONE, BOOTPLAN_NO_ROOM};
-pub use entry::NODE_BOUND;
-pub use list::{nodes_good, read_ram, read_ranges};
-pub use read::{TABLE_WORDS, TableRead, read_table};
-pub use write::{put_four, put_three, write_table};
+pub use code::{CallError, code_of};
+pub use list::{NODE_BOUND, nodes_good, read_ram, read_ranges};
+pub use read::{TABLE_WORDS, read_table};
+pub use write::{put_words, write_table};

@@ -1,55 +1,47 @@
-// Lists as words, read into arrays.
-ghost use Rattle.std.specs.Prelude.{◌≡◌};
+// Lists as words, read into slices.
+ghost use Rattle.std.specs.Prelude.{◌≡◌, ◌≤◌, map, length};
 ghost use Rattle.std.proofs.lemmas.List.Edits.{sets};
-ghost use Rattle.table_words.specs.List.{range_rows, ram_rows, column, node_column, nodes_good};
+ghost use Rattle.table_words.specs.List.{ram_rows, range_in, ranges_in, ram_low, nodes_good};
 
-use crate::entry::NODE_BOUND;
-use memory_range::{MemoryRange, put_address, put_range};
+use memory_range::{MemoryRange, TaggedRange, put};
+
+// A node has 32 bits.
+pub const NODE_BOUND: u64 = 0x1_0000_0000;
 
 // Whether the third word of every three is a node.
 pub fn nodes_good(words: &[u64]) -> bool
     ensures { result ≡ nodes_good (ram_rows words.now) }
 {
-    let count = words.len() / 3;
-    let mut i = 0;
-    while i < count {
-        if NODE_BOUND <= words[3 * i + 2] {
-            return false;
-        }
-        i += 1;
+    words.chunks_exact(3).all(|row| row[2] < NODE_BOUND)
+}
+
+// The first two words are the start and the end.
+pub(crate) fn range_in(row: &[u64]) -> MemoryRange
+    requires { 2 ≤ length row.now }
+    ensures { result ≡ range_in row.now }
+{
+    MemoryRange {
+        start: row[0],
+        end: row[1],
     }
-    true
 }
 
 // Ranges of two words each.
-pub fn read_ranges(words: &[u64], starts: &mut [u64], ends: &mut [u64])
-    ensures { let rows = range_rows words.now in (starts.new ≡ sets starts.old 0 (column 0 rows))
-        × (ends.new ≡ sets ends.old 0 (column 1 rows)) }
+pub fn read_ranges(words: &[u64], ranges: &mut [MemoryRange])
+    ensures { ranges.new ≡ sets ranges.old 0 (ranges_in words.now) }
 {
-    let count = words.len() / 2;
-    let mut i = 0;
-    while i < count {
-        put_address(starts, i, words[2 * i]);
-        put_address(ends, i, words[2 * i + 1]);
-        i += 1;
+    for (i, row) in words.chunks_exact(2).enumerate() {
+        put(ranges, i, range_in(row));
     }
 }
 
 // Ranges with their nodes, three words each. Of a word that is no node its lowest 32 bits.
-pub fn read_ram(words: &[u64], starts: &mut [u64], ends: &mut [u64], nodes: &mut [u32])
-    ensures { let rows = ram_rows words.now in (starts.new ≡ sets starts.old 0 (column 0 rows))
-        × (ends.new ≡ sets ends.old 0 (column 1 rows))
-        × (nodes.new ≡ sets nodes.old 0 (node_column rows)) }
+pub fn read_ram(words: &[u64], ram: &mut [TaggedRange])
+    ensures { ram.new ≡ sets ram.old 0 (map ram_low (ram_rows words.now)) }
 {
-    let count = words.len() / 3;
-    let mut i = 0;
-    while i < count {
-        let range = MemoryRange {
-            start: words[3 * i],
-            end: words[3 * i + 1],
-        };
-        let node = words[3 * i + 2] % NODE_BOUND;
-        put_range(starts, ends, nodes, i, range, node as u32);
-        i += 1;
+    for (i, row) in words.chunks_exact(3).enumerate() {
+        let range = range_in(row);
+        let tag = (row[2] % NODE_BOUND) as u32;
+        put(ram, i, TaggedRange { range, tag });
     }
 }

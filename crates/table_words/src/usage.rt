@@ -1,17 +1,19 @@
 // Words for usages: 0 for free memory, and else the number of its usage plus 1.
-ghost use Rattle.std.specs.Prelude.{◌≡◌, ◌≤◌};
-ghost use Rattle.table_words.specs.Usage.{usage_word, usage_of_word};
+ghost use Rattle.std.specs.Prelude.{◌≡◌};
+ghost use Rattle.table_words.specs.Usage.{usage_word, usage_read};
 
 use address_space::{AddressUsage, reserved_number, usage_of};
 
-pub(crate) fn usage_of_word(word: u64) -> AddressUsage
-    requires { word ≤ 10 }
-    ensures { result ≡ usage_of_word word }
+// The words of usages are 0 to 10.
+#[tactic(auto, unfolding(crate::specs::Usage::usage_of_word))]
+pub(crate) fn usage_of_word(word: u64) -> Option<AddressUsage>
+    ensures { result ≡ usage_read word }
 {
-    if word == 0 {
-        return AddressUsage::Free;
+    match word {
+        0 => Some(AddressUsage::Free),
+        1..=10 => Some(usage_of((word - 1) as u32)),
+        _ => None,
     }
-    usage_of((word - 1) as u32)
 }
 
 pub(crate) fn usage_word(usage: AddressUsage) -> u64
@@ -20,6 +22,6 @@ pub(crate) fn usage_word(usage: AddressUsage) -> u64
     match usage {
         AddressUsage::Free => 0,
         AddressUsage::Used => 1,
-        AddressUsage::Reserved(reserved) => reserved_number(reserved) as u64 + 1,
+        AddressUsage::Reserved(reserved) => u64::from(reserved_number(reserved)) + 1,
     }
 }

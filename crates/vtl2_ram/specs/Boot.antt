@@ -1,6 +1,5 @@
 -- Boot mode (docs/SPEC.md, section 19; document 01, Port order 4).
-use Rattle.std.specs.Prelude.{ℕ, ◌-◌, ◌^◌, ◌≡◌, Bool, true, false, not, List, [], ◌∷◌, ◌++◌, ltb, length}
-use Rattle.std.proofs.Math.Option.{Option, none, some}
+use Rattle.std.specs.Prelude.{ℕ, ◌-◌, ◌^◌, ◌≡◌, Bool, true, false, not, List, [], ◌∷◌, ◌++◌, ltb, length, Option, Some, None, Result, Ok, Err}
 use Rattle.memory_range.specs.declared.range.MemoryRange.{MemoryRange}
 use Rattle.memory_range.specs.declared.range.TaggedRange.{TaggedRange}
 use Rattle.memory_range.specs.List.{ranges_in, tags_of}
@@ -8,8 +7,6 @@ use Rattle.memory_range.specs.Range.{length_of}
 use Rattle.range_lists.specs.Sort.{sort_by_start}
 use Rattle.memory_range.specs.Valid.{page_size, valid_range, all_valid_of, ascend}
 use Rattle.host_params.specs.declared.IsolationType.{IsolationType}
-use Rattle.host_params.specs.declared.OptionU64.{OptionU64}
-use Rattle.host_params.specs.declared.OptionU64.TheVariants.{Some, None}
 use Rattle.boot_ram.specs.File.{file_walk}
 use Rattle.boot_ram.specs.Import.{imports_clear, import_walk}
 use Rattle.boot_nodes.specs.Node.{distinct, nodes_bad}
@@ -18,35 +15,34 @@ use Rattle.boot_take.specs.Take.{taking}
 use Rattle.boot_ram.specs.Verdict.{Judged, ends}
 use Rattle.refusal.specs.Number.{node_numbers, ram_size_below_file, share_too_large, import_crosses_file}
 use Rattle.refusal.specs.Rows.{refused_if, downward, unless}
-use Rattle.vtl2_ram.specs.declared.boot.NodeShare.{NodeShare}
-use Rattle.vtl2_ram.specs.declared.boot.NodeShare.TheVariants.{Bytes, Refused}
 use Rattle.vtl2_ram.specs.Choice.{Choice, refused, chosen}
+use Rattle.refusal.specs.declared.Refusal.{Refusal}
 
 -- the RAM size: the one given, or the file's
-abbrev pub size_wanted : OptionU64 → MemoryRange → ℕ
+abbrev pub size_wanted : Option ℕ → MemoryRange → ℕ
 size_wanted (Some size) file = size
 size_wanted None file = length_of file
 
 -- row 8: a size is given, and is below the file's
-abbrev pub is_size_below : OptionU64 → MemoryRange → Bool
+abbrev pub is_size_below : Option ℕ → MemoryRange → Bool
 is_size_below (Some size) file = ltb size (length_of file)
 is_size_below None file = false
 
 -- row 9: a share is above the highest page multiple of 64 bits
-abbrev pub share_too_large_for : ℕ → ℕ → Option ℕ
+abbrev pub share_too_large_for : ℕ → ℕ → Option Refusal
 share_too_large_for size n = refused_if (ltb (2 ^ 64 - page_size) (share_of size n)) share_too_large
 
-abbrev pub share_refusal : OptionU64 → MemoryRange → ℕ → Option ℕ
+abbrev pub share_refusal : Option ℕ → MemoryRange → ℕ → Option Refusal
 share_refusal size file n = downward (refused_if (is_size_below size file) ram_size_below_file ∷ share_too_large_for (size_wanted size file) n ∷ [])
 
-abbrev pub share_as : Option ℕ → ℕ → NodeShare
-share_as none share = Bytes share
-share_as (some n) share = Refused n
+abbrev pub share_as : Option Refusal → ℕ → Result ℕ Refusal
+share_as None share = Ok share
+share_as (Some n) share = Err n
 
 -- a refusal, if there is one, and else what comes next
-abbrev pub next_unless : Option ℕ → Judged → Judged
-next_unless none next = next
-next_unless (some n) next = ends (some n)
+abbrev pub next_unless : Option Refusal → Judged → Judged
+next_unless None next = next
+next_unless (Some n) next = ends (Some n)
 
 -- a part, and where it does not refuse the next one, which is given its free pieces
 abbrev pub and_then : Judged → (List TaggedRange → Judged) → Judged
@@ -72,7 +68,7 @@ boot_parts isolation file map imports share nodes =
     unless refused pieces.refusal (beside_file isolation file imports share nodes pieces.free pieces.chosen)
 
 -- rows 7, 8 and 9, then the parts
-unfoldable pub boot_choice : IsolationType → OptionU64 → MemoryRange → List TaggedRange → List MemoryRange → Choice
+unfoldable pub boot_choice : IsolationType → Option ℕ → MemoryRange → List TaggedRange → List MemoryRange → Choice
 boot_choice isolation size file map imports =
     let nodes = distinct (tags_of map) in
     unless refused (downward (refused_if (nodes_bad nodes) node_numbers ∷ share_refusal size file (length nodes) ∷ []))

@@ -1,10 +1,11 @@
 -- What a selection comes to (docs/SPEC.md, section 19).
-use Rattle.std.specs.Prelude.{ℕ, List, []}
+use Rattle.std.specs.Prelude.{List, []}
+use Rattle.refusal.specs.declared.Refusal.{Refusal}
 use Rattle.memory_range.specs.declared.range.TaggedRange.{TaggedRange}
 
--- a refusal's number, or the chosen entries with their nodes, ascending by start
+-- a refusal, or the chosen entries with their nodes, ascending by start
 pub data Choice : Type 0 where
-  refused : ℕ → Choice
+  refused : Refusal → Choice
   chosen : List TaggedRange → Choice
 
 -- the chosen entries, none where refused

@@ -1,6 +1,6 @@
 -- What is claimed of the chosen RAM (docs/SPEC.md, section 20): demand 3's sentence on selection, and what
 -- the layers above rest on.
-use Rattle.std.specs.Prelude.{ℕ, ◌+◌, ◌≤◌, ◌<◌, min, max, ◌≡◌, true, false, cond, List, [], ◌∷◌, eqb, length}
+use Rattle.std.specs.Prelude.{ℕ, ◌+◌, ◌≤◌, ◌<◌, min, max, ◌≡◌, true, false, cond, List, [], ◌∷◌, eqb, length, Option}
 use Rattle.memory_range.specs.declared.range.MemoryRange.{MemoryRange}
 use Rattle.memory_range.specs.declared.range.TaggedRange.{TaggedRange}
 use Rattle.memory_range.specs.Bytes.{holders}
@@ -9,7 +9,6 @@ use Rattle.memory_range.specs.Range.{range, length_of, holds}
 use Rattle.memory_range.specs.Valid.{all_valid_of, ascend}
 use Rattle.range_lists.specs.Laws.Node.{has}
 use Rattle.host_params.specs.declared.MemoryEntry.{MemoryEntry}
-use Rattle.host_params.specs.declared.OptionU64.{OptionU64}
 use Rattle.boot_ram.specs.Held.{holders_on, on_node, bytes_of}
 use Rattle.boot_nodes.specs.Node.{nodes_in}
 use Rattle.boot_nodes.specs.Share.{share_step, share_of}
@@ -17,7 +16,7 @@ use Rattle.boot_ram.specs.Verdict.{max_chosen}
 use Rattle.vtl2_ram.specs.Boot.{size_wanted}
 
 -- the share of each node of a map
-abbrev pub share_in : OptionU64 → MemoryRange → List MemoryEntry → ℕ
+abbrev pub share_in : Option ℕ → MemoryRange → List MemoryEntry → ℕ
 share_in size file map = share_of (size_wanted size file) (length (nodes_in map))
 
 -- what two ranges have in common: from the later start to the earlier end

@@ -1,5 +1,5 @@
 -- Host mode (docs/SPEC.md, section 19; document 01, Port order 4).
-use Rattle.std.specs.Prelude.{ℕ, ◌+◌, ◌-◌, ◌^◌, max, Bool, true, false, cond, List, [], ◌∷◌, ltb, length}
+use Rattle.std.specs.Prelude.{ℕ, ◌+◌, ◌-◌, ◌^◌, max, Bool, true, false, cond, List, [], ◌∷◌, ltb, length, Option}
 use Rattle.memory_range.specs.declared.range.MemoryRange.{MemoryRange}
 use Rattle.memory_range.specs.declared.range.TaggedRange.{TaggedRange}
 use Rattle.memory_range.specs.List.{tagged}
@@ -8,14 +8,13 @@ use Rattle.memory_range.specs.Valid.{page_size}
 use Rattle.host_params.specs.declared.IsolationType.{IsolationType}
 use Rattle.host_params.specs.declared.IsolationType.TheVariants.{None, Vbs, Snp, Tdx, Cca}
 use Rattle.host_params.specs.declared.MemoryEntry.{MemoryEntry}
-use Rattle.refusal.specs.declared.answer.Counted.{Counted}
 use Rattle.boot_ram.specs.Held.{bytes_of}
 use Rattle.boot_ram.specs.Verdict.{max_chosen}
-use Rattle.refusal.specs.Answer.{counted_as}
 use Rattle.refusal.specs.Number.{share_too_large, too_many_pieces}
 use Rattle.refusal.specs.Rows.{refused_if, unless}
 use Rattle.vtl2_ram.specs.Choice.{Choice, refused, chosen}
 use Rattle.host_map.specs.Map.{protectable_in}
+use Rattle.refusal.specs.declared.Refusal.{Refusal}
 
 abbrev pub is_hardware_isolated : IsolationType → Bool
 is_hardware_isolated None = false
@@ -35,14 +34,14 @@ isolated_choice file bytes =
     unless refused (refused_if (ltb (2 ^ 64 - page_size) (isolated_end file bytes)) share_too_large)
     (chosen (tagged file.start (isolated_end file bytes) 0 ∷ []))
 
--- how many protectable entries there are, or that they are too many
-abbrev pub protectable_counted : List TaggedRange → Counted
-protectable_counted xs = counted_as (refused_if (ltb max_chosen (length xs)) too_many_pieces) (length xs)
+-- that the protectable entries are too many, if they are
+abbrev pub protectable_refusal : List TaggedRange → Option Refusal
+protectable_refusal xs = refused_if (ltb max_chosen (length xs)) too_many_pieces
 
 -- any other guest keeps the protectable entries; without one it gets the file, on node 0
 abbrev pub protectable_choice : MemoryRange → List TaggedRange → Choice
 protectable_choice file [] = chosen (tagged file.start file.end 0 ∷ [])
-protectable_choice file (x ∷ xs) = unless refused (refused_if (ltb max_chosen (length (x ∷ xs))) too_many_pieces) (chosen (x ∷ xs))
+protectable_choice file (x ∷ xs) = unless refused (protectable_refusal (x ∷ xs)) (chosen (x ∷ xs))
 
 unfoldable pub host_choice : IsolationType → MemoryRange → List MemoryEntry → Choice
 host_choice isolation file map =

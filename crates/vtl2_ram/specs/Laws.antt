@@ -3,6 +3,7 @@ pub mod Boot
 pub mod BootRule
 pub mod Choice
 pub mod Claim
+pub mod Copied
 pub mod Host
 pub mod HostRule
 pub mod Map

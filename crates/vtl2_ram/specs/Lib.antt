@@ -4,6 +4,7 @@ pub mod Rows
 pub mod Boot
 pub mod Host
 pub mod Select
+pub mod Copied
 pub mod Claim
 pub mod Rule
 pub mod Laws

@@ -1,11 +1,11 @@
 -- Rows 4, 5 and 6 of the refusal chart, which hold in both modes (docs/SPEC.md, section 19).
-use Rattle.std.specs.Prelude.{ℕ, Bool, true, false, ◌&&◌, not, List, [], ◌∷◌, leb, eqb, length}
-use Rattle.std.proofs.Math.Option.{Option}
+use Rattle.std.specs.Prelude.{ℕ, Bool, true, false, ◌&&◌, not, List, [], ◌∷◌, leb, eqb, length, Option}
 use Rattle.memory_range.specs.declared.range.MemoryRange.{MemoryRange}
 use Rattle.memory_range.specs.Valid.{valid_range, all_valid_of, ascend}
 use Rattle.host_map.specs.Map.{max_entries}
 use Rattle.host_params.specs.declared.MemoryAllocationMode.{MemoryAllocationMode}
 use Rattle.host_params.specs.declared.MemoryAllocationMode.TheVariants.{Host, Vtl2}
+use Rattle.refusal.specs.declared.Refusal.{Refusal}
 use Rattle.refusal.specs.Number.{range_invalid, ranges_not_ascending, map_count_of}
 use Rattle.refusal.specs.Rows.{refused_if, downward}
 
@@ -23,7 +23,7 @@ counts_good mode m i = leb m max_entries && (leb i max_imports && not (is_boot m
 
 -- row 4 over all ranges, then row 5 over both lists, then row 6, by what is known of the map: whether its ranges are valid,
 -- whether they ascend, and how many there are
-unfoldable pub rows_known : MemoryAllocationMode → MemoryRange → Bool → Bool → ℕ → List MemoryRange → Option ℕ
+unfoldable pub rows_known : MemoryAllocationMode → MemoryRange → Bool → Bool → ℕ → List MemoryRange → Option Refusal
 rows_known mode file valid ascending count imports =
     downward
     (refused_if (not (valid_range file && (valid && all_valid_of imports))) range_invalid
@@ -32,5 +32,5 @@ rows_known mode file valid ascending count imports =
     ∷ [])
 
 -- the rows of a map's ranges
-abbrev pub rows_refusal : MemoryAllocationMode → MemoryRange → List MemoryRange → List MemoryRange → Option ℕ
+abbrev pub rows_refusal : MemoryAllocationMode → MemoryRange → List MemoryRange → List MemoryRange → Option Refusal
 rows_refusal mode file map imports = rows_known mode file (all_valid_of map) (ascend map) (length map) imports

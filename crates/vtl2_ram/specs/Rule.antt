@@ -1,7 +1,7 @@
 -- The rows of the refusal chart that concern selection, each as a rule by itself, said of numbers and bytes and not of the
 -- walks that look for it (docs/SPEC.md, section 20). An accepted selection keeps every rule, and a refusal tells the number of the
 -- first one that is broken.
-use Rattle.std.specs.Prelude.{ℕ, ◌+◌, ◌-◌, ◌^◌, ◌≤◌, ◌<◌, ◌≡◌, true, false, cond, List, [], ◌∷◌, ◌⊎◌, eqb, length}
+use Rattle.std.specs.Prelude.{ℕ, ◌+◌, ◌-◌, ◌^◌, ◌≤◌, ◌<◌, ◌≡◌, true, false, cond, List, [], ◌∷◌, ◌⊎◌, eqb, length, Option}
 use Rattle.memory_range.specs.declared.range.MemoryRange.{MemoryRange}
 use Rattle.memory_range.specs.declared.range.TaggedRange.{TaggedRange}
 use Rattle.memory_range.specs.Bytes.{holders, Ordered, All}
@@ -14,7 +14,6 @@ use Rattle.host_params.specs.declared.IsolationType.{IsolationType}
 use Rattle.host_params.specs.declared.MemoryAllocationMode.{MemoryAllocationMode}
 use Rattle.host_params.specs.declared.MemoryAllocationMode.TheVariants.{Host, Vtl2}
 use Rattle.host_params.specs.declared.MemoryEntry.{MemoryEntry}
-use Rattle.host_params.specs.declared.OptionU64.{OptionU64}
 use Rattle.host_map.specs.Map.{max_entries, map_ranges, entries_in, protectable_in}
 use Rattle.boot_nodes.specs.Node.{nodes_in, max_nodes}
 use Rattle.boot_ram.specs.File.{file_verdicts, file_walk}
@@ -22,7 +21,7 @@ use Rattle.boot_ram.specs.Held.{PagedRange, Fits, on_node, bytes_of, holders_on}
 use Rattle.boot_ram.specs.Import.{MayBeImported, import_verdicts, import_walk}
 use Rattle.boot_ram.specs.Verdict.{max_chosen}
 use Rattle.boot_take.specs.Take.{take_all_of}
-use Rattle.refusal.specs.Number.{range_invalid, ranges_not_ascending, map_count_of, node_numbers, ram_size_below_file, share_too_large}
+use Rattle.refusal.specs.Number.{number_of, range_invalid, ranges_not_ascending, map_count_of, node_numbers, ram_size_below_file, share_too_large}
 use Rattle.refusal.specs.Number.{file_not_in_map, import_crosses_file, import_not_in_map, node_too_small, too_many_pieces}
 use Rattle.refusal.specs.Rule.{KeptBelow, BrokenAt}
 use Rattle.vtl2_ram.specs.Boot.{size_wanted}
@@ -35,22 +34,22 @@ pub data Row : Type 0 where
   row4 row5 row6 row7 row8 row9 row10 row11 row12 row13 row14 : Row
 
 abbrev pub number : Row → ℕ
-number row4 = range_invalid
-number row5 = ranges_not_ascending
-number row6 = map_count_of
-number row7 = node_numbers
-number row8 = ram_size_below_file
-number row9 = share_too_large
-number row10 = file_not_in_map
-number row11 = import_crosses_file
-number row12 = import_not_in_map
-number row13 = node_too_small
-number row14 = too_many_pieces
+number row4 = number_of range_invalid
+number row5 = number_of ranges_not_ascending
+number row6 = number_of map_count_of
+number row7 = number_of node_numbers
+number row8 = number_of ram_size_below_file
+number row9 = number_of share_too_large
+number row10 = number_of file_not_in_map
+number row11 = number_of import_crosses_file
+number row12 = number_of import_not_in_map
+number row13 = number_of node_too_small
+number row14 = number_of too_many_pieces
 
 -- the rows with lower numbers than this are looked at before a row: those above it in the chart; but a piece too many can come up
 -- in every part, so before 14 only rows 4 to 9 are
 abbrev pub looked_at : Row → ℕ
-looked_at row = cond (eqb (number row) too_many_pieces) file_not_in_map (number row)
+looked_at row = cond (eqb (number row) (number_of too_many_pieces)) (number_of file_not_in_map) (number row)
 
 -- what is asked of host mode, and what of boot mode
 abbrev pub ByMode : MemoryAllocationMode → Type 0 → Type 0 → Type 0
@@ -79,7 +78,7 @@ PiecesFit isolation file map imports share nodes =
     × Fits 0 0 (import_verdicts isolation file imports found (walk imports (ranges_in found)))
     × Fits 0 (length pieces) (take_all_of share pieces free nodes)
 
-module _ (mode : MemoryAllocationMode) (isolation : IsolationType) (size : OptionU64) (file : MemoryRange) (map : List MemoryEntry)
+module _ (mode : MemoryAllocationMode) (isolation : IsolationType) (size : (Option ℕ)) (file : MemoryRange) (map : List MemoryEntry)
     (imports : List MemoryRange) where
   abbrev pub Rule : Row → Type 0
   -- each range has a byte, and starts and ends at a page

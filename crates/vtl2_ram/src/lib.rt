@@ -7,5 +7,5 @@ mod ram;
 mod rows;
 mod select;
 
-pub use ram::{Selection, Vtl2Ram};
-pub use select::{select_from_array, select_from_lists, select_vtl2_ram};
+pub use ram::Vtl2Ram;
+pub use select::select_vtl2_ram;

@@ -1,5 +1,6 @@
 -- The worked examples (docs/SPEC.md, each in the section of its rule), P1 to P12, in one table.
-use Rattle.std.specs.Prelude.{ℕ, ◌*◌, ◌/◌, ◌≡◌, true, List, [], ◌∷◌, map}
+use Rattle.std.specs.Prelude.{ℕ, ◌*◌, ◌/◌, ◌≡◌, true, List, [], ◌∷◌, map, Some, None}
+use Rattle.refusal.specs.Number.{number_of}
 use Rattle.host_params.specs.declared.Vtl2GpaPoolLookupTable.{Vtl2GpaPoolLookupTable}
 use Rattle.host_params.specs.declared.Vtl2GpaPoolLookupTable.TheVariants.{Release, Debug}
 use Rattle.memory_range.specs.Range.{range, length_of}
@@ -10,8 +11,6 @@ use Rattle.boot_take.specs.Take.{taken_start}
 use Rattle.host_params.specs.declared.AllocationPolicy.{AllocationPolicy}
 use Rattle.host_params.specs.declared.AllocationPolicy.TheVariants.{LowMemory, HighMemory}
 use Rattle.host_params.specs.declared.AllocationType.TheVariants.{SidecarNode}
-use Rattle.host_params.specs.declared.OptionU32.TheVariants as node
-use Rattle.host_params.specs.declared.OptionU64.TheVariants as number
 use Rattle.address_space.specs.declared.request.AllocatedRange.{AllocatedRange}
 use Rattle.address_space.specs.declared.table.AddressRange.{AddressRange}
 use Rattle.address_space.specs.Request.{Outcome, refused, handed, requested}
@@ -38,9 +37,9 @@ pub data Example : Type 0 where
 
 -- a request of one byte on a table with one free entry
 abbrev pub one_byte : ℕ → ℕ → AllocationPolicy → ℕ → Outcome
-one_byte start end policy alignment = requested node.None 1 SidecarNode policy (number.Some alignment) (free_entry 0 (range start end) ∷ [])
+one_byte start end policy alignment = requested None 1 SidecarNode policy (Some alignment) (free_entry 0 (range start end) ∷ [])
 
--- what an outcome tells: the range's start and end, or the refusal; 0 where there is none
+-- what an outcome tells: the range's start and end, or the refusal's number; 0 where there is none
 abbrev pub start_of : Outcome → ℕ
 start_of (refused n) = 0
 start_of (handed x es) = x.range.start
@@ -50,7 +49,7 @@ end_of (refused n) = 0
 end_of (handed x es) = x.range.end
 
 abbrev pub refusal_of : Outcome → ℕ
-refusal_of (refused n) = n
+refusal_of (refused n) = number_of n
 refusal_of (handed x es) = 0
 
 -- a pool of so many pages, split over a table with a free entry of 16 pages for each of three nodes
@@ -60,7 +59,7 @@ three_nodes = free_entry 0 (range 0 0x10000) ∷ free_entry 1 (range 0x10000 0x2
 abbrev pub over_three : ℕ → Placement
 over_three pages = pool_placed pages true three_nodes
 
--- what a placement tells: the pages of each range, or the refusal; none or 0 where there is none
+-- what a placement tells: the pages of each range, or the refusal's number; none or 0 where there is none
 abbrev pub pages_of_each : List AllocatedRange → List ℕ
 pages_of_each = map (λ x. length_of x.range / page_size)
 
@@ -69,7 +68,7 @@ pages_placed (placement.refused n) = []
 pages_placed (placement.placed xs es) = pages_of_each xs
 
 abbrev pub placement_refusal : Placement → ℕ
-placement_refusal (placement.refused n) = n
+placement_refusal (placement.refused n) = number_of n
 placement_refusal (placement.placed xs es) = 0
 
 -- that the definitions give an example's answer

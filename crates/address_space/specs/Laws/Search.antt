@@ -1,15 +1,15 @@
 -- Laws of Search.
-use Rattle.std.specs.Prelude.{ℕ, suc, ◌+◌, ◌-◌, ◌≤◌, ◌<◌, Bool, true, false, cond, ◌↔◌, ◌≡◌, refl, length, take, drop, get_or}
+use Rattle.std.specs.Prelude.{ℕ, zero, suc, ◌+◌, ◌-◌, ◌≤◌, ◌<◌, Bool, true, false, cond, ◌↔◌, ◌≡◌, refl, length, take, drop, get_or, Some, None}
 use mathlib.Core.List.{List, [], ◌∷◌, ◌++◌, reverse, reverse-cons, reverse-append, reverse-reverse, append_assoc}
 use Rattle.std.proofs.Common.{ap, sym, ◌∙◌, add-one, arith, length-append, length-drop, length-take-le, take_all, take-suc}
 use Rattle.std.proofs.lemmas.List.{length-reverse, get_or_at}
 use Rattle.std.proofs.Math.Seq.{split_at, take-append_seam, drop-append-add, get_or-append_seam}
+use Rattle.std.specs.List.{AllWithin, HoldsAt}
 use Rattle.memory_range.specs.Bytes.{All}
 use Rattle.memory_range.specs.Laws.Bytes.{all_append, all-reverse}
 use Rattle.host_params.specs.declared.AllocationPolicy.{AllocationPolicy}
 use Rattle.host_params.specs.declared.AllocationPolicy.TheVariants.{LowMemory, HighMemory}
 use Rattle.address_space.specs.Search.{Search, nothing, found, past, first_of, in_order_of, searched, below_in, above_in, place_at, place_found}
-use Rattle.address_space.specs.declared.search.Place.TheVariants.{At, Nowhere}
 
 -- what holds of every element holds in the order of a search
 module _ {A : Type 0} (P : A → Type 0) where
@@ -147,14 +147,14 @@ below_at HighMemory es seen h = simp (length-reverse, length-drop) (omega arith)
 module _ {A : Type 0} (policy : AllocationPolicy) (f : A → Bool) (es : List A) (seen : ℕ)
     (failed : All (λ y. f y ≡ false) (take seen (in_order_of policy es))) where
   pub search_hit : (d : A) → seen < length es → f (get_or es (place_at policy (length es) seen) d) ≡ true
-      → place_found policy (searched policy f es) ≡ At (place_at policy (length es) seen)
+      → place_found policy (searched policy f es) ≡ Some (place_at policy (length es) seen)
   search_hit d h t =
       let l = in_order_of policy es in
       let e = split_at l seen d (rw (length_in_order policy es) h) in
       let fits = ap f (in_order-at policy es seen d h) ∙ t in
       ap (λ r. place_found policy (first_of f r)) e
       ∙ ap (place_found policy) (found_first f (take seen l) (get_or l seen d) (drop (suc seen) l) failed fits)
-      ∙ ap At (below_at policy es seen h)
+      ∙ ap Some (below_at policy es seen h)
 
   pub search_miss : (d : A) → seen < length es → f (get_or es (place_at policy (length es) seen) d) ≡ false
       → All (λ y. f y ≡ false) (take (seen + 1) (in_order_of policy es))
@@ -163,7 +163,32 @@ module _ {A : Type 0} (policy : AllocationPolicy) (f : A → Bool) (es : List A)
       rw (add-one seen, take-suc l seen d (rw (length_in_order policy es) h))
       (all_append (λ y. f y ≡ false) (take seen l) (get_or l seen d ∷ []) failed (ap f (in_order-at policy es seen d h) ∙ t, tt))
 
-  pub search-end : length es ≤ seen → place_found policy (searched policy f es) ≡ Nowhere
+  pub search-end : length es ≤ seen → place_found policy (searched policy f es) ≡ None
   search-end h =
       let l = in_order_of policy es in
       ap (place_found policy) (all_fail f l (rw (take_all seen l (rw (length_in_order policy es) h)) at failed))
+
+-- what holds at each of the first indices holds of the first elements
+all-within : {A : Type 0} (P : A → Type 0) (l : List A) (n : ℕ) → n ≤ length l → AllWithin P l 0 n → All P (take n l)
+all-within P l zero h w = tt
+all-within P [] (suc n) h w = absurd (omega arith)
+all-within P (x ∷ xs) (suc n) h w =
+    (w 0 x (omega arith) (omega arith), all-within P xs n (omega arith) (λ k d a b. w (suc k) d (omega arith) (omega arith)))
+
+-- a search by the index of the first element that passes, in its order
+module _ {A : Type 0} (policy : AllocationPolicy) (f : A → Bool) (es : List A) where
+  pub first-none : AllWithin (λ y. f y ≡ false) (in_order_of policy es) 0 (length (in_order_of policy es))
+      → place_found policy (searched policy f es) ≡ None
+  first-none w =
+      let l = in_order_of policy es in
+      let n = length_in_order policy es in
+      search-end policy f es (length l) (all-within (λ y. f y ≡ false) l (length l) (omega arith) w) (omega arith)
+
+  pub first-at : (i : ℕ) (d : A) → i < length (in_order_of policy es) → HoldsAt (λ y. f y ≡ true) (in_order_of policy es) i
+      → AllWithin (λ y. f y ≡ false) (in_order_of policy es) 0 i
+      → place_found policy (searched policy f es) ≡ Some (place_at policy (length es) i)
+  first-at i d h t w =
+      let l = in_order_of policy es in
+      let n = length_in_order policy es in
+      let below : i < length es = omega arith in
+      search_hit policy f es i (all-within (λ y. f y ≡ false) l i (omega arith) w) d below (sym (ap f (in_order-at policy es i d below)) ∙ t d)

@@ -1,10 +1,11 @@
 -- Laws of the split: how many entries it makes, what the array is after its stores, and what a request is answered
 -- that is placed at an index.
-use Rattle.std.specs.Prelude.{ℕ, zero, suc, ◌+◌, ◌-◌, ◌≤◌, ◌<◌, Bool, true, false, cond, ◌||◌, ◌≡◌, refl, List, [], ◌∷◌, ◌++◌, ltb, length, take, drop, get_or, set}
+use Rattle.std.specs.Prelude.{ℕ, zero, suc, ◌+◌, ◌-◌, ◌≤◌, ◌<◌, Bool, true, false, cond, ◌||◌, ◌≡◌, refl, List, [], ◌∷◌, ◌++◌, ltb, length, take, drop, get_or, set, Option, Ok}
 use Rattle.std.proofs.Common.{ap, sym, ◌∙◌, append_assoc, append-nil, add-zero, add-one, arith, lt-ltb, le-ltb, length-append, length-take, length-drop, take-append-drop, drop_of_length-le, length-take-le, take-take, drop_at, drop-cons, take-suc, set-set, get_or-take}
 use Rattle.std.proofs.Math.Decide.{dec_lt}
 use Rattle.std.proofs.Math.ListN.{get_or-append}
-use Rattle.std.proofs.lemmas.List.{take-append-le, set_at}
+use Rattle.std.specs.List.{copy_within}
+use Rattle.std.proofs.lemmas.List.{take-append-le, set_at, drop-take}
 use Rattle.std.proofs.Math.Seq.{take-append_seam}
 use Rattle.std.proofs.lemmas.List.Edits.{sets, sets-eq}
 use Rattle.refusal.specs.Number.{table_full}
@@ -16,8 +17,6 @@ use Rattle.memory_range.specs.Laws.Range.{cut-once}
 use Rattle.host_params.specs.declared.AllocationPolicy.{AllocationPolicy}
 use Rattle.host_params.specs.declared.AllocationPolicy.TheVariants.{HighMemory}
 use Rattle.host_params.specs.declared.AllocationType.{AllocationType}
-use Rattle.host_params.specs.declared.OptionU64.{OptionU64}
-use Rattle.address_space.specs.declared.request.Allocated.TheVariants.{Range}
 use Rattle.address_space.specs.declared.request.Allocation.{Allocation}
 use Rattle.address_space.specs.declared.split.SplitParts.{SplitParts}
 use Rattle.address_space.specs.declared.table.AddressRange.{AddressRange}
@@ -73,6 +72,14 @@ module _ {A : Type 0} where
   -- the list in which the elements from the index f up to k stand by places further up
   abbrev pub moved_up : ℕ → ℕ → ℕ → List A → List A
   moved_up f k by l = take (f + by) l ++ drop f (take k l) ++ drop (k + by) l
+
+  -- it is what a copy of those elements leaves
+  pub copied-up : (f k by : ℕ) (l : List A) → f ≤ k → copy_within l f k (f + by) ≡ moved_up f k by l
+  copied-up f k by l h =
+      let n : f + (k - f) ≡ k = omega arith in
+      let e : f + by + (k - f) ≡ k + by = omega arith in
+      let t : take (k - f) (drop f l) ≡ drop f (take k l) = sym (drop-take f (k - f) l) ∙ rw n in
+      rw (e, t)
 
   module _ (k by : ℕ) (l : List A) (fits : k + by ≤ length l) where
     -- nothing is moved before the first turn
@@ -165,7 +172,7 @@ module _ (k at count : ℕ) (l l' : List AddressRange) (used : MemoryRange) (usa
 
 -- the answer to a request that is placed at an index, where used is what the array's entry there gives, and parts are
 -- those of its split
-module _ (m : AddressSpaceManager) (at len : ℕ) (type : AllocationType) (policy : AllocationPolicy) (alignment : OptionU64) (used : MemoryRange)
+module _ (m : AddressSpaceManager) (at len : ℕ) (type : AllocationType) (policy : AllocationPolicy) (alignment : Option ℕ) (used : MemoryRange)
     (parts : SplitParts) (count : ℕ)
     (within : at < length (entries_of m))
     (counted : count ≡ length (entries_of m))
@@ -199,7 +206,7 @@ module _ (m : AddressSpaceManager) (at len : ℕ) (type : AllocationType) (polic
       → flag ≡ (pool_of m || is_pool type)
       → ◌≡◌ {A = Allocation}
       (record {
-        answer = Range (record { range = used; vnode = chosen.vnode });
+        answer = Ok (record { range = used; vnode = chosen.vnode });
         manager = record {
           address_space = set (set (set l at parts.first) (at + parts.below) parts.used) (at + parts.added) parts.last;
           count = count + parts.added;

@@ -1,9 +1,9 @@
 -- Wrong answers of the table, each refuted (docs/PROVED.md).
-use Rattle.std.specs.Prelude.{ℕ, ◌<◌, ◌≡◌, Bool, true, false, List, [], ◌∷◌, ◌≢◌, eqb, length}
+use Rattle.std.specs.Prelude.{ℕ, ◌<◌, ◌≡◌, Bool, true, false, List, [], ◌∷◌, ◌≢◌, eqb, length, Option, Some, None}
 use Rattle.std.proofs.Common.{ap, true≢false, arith, le-ltb, length-take}
 use Rattle.std.proofs.lemmas.Bool.{false≢true}
-use Rattle.std.proofs.Math.Option.{Option, none, some}
-use Rattle.refusal.specs.Number.{alignment_invalid, no_fit, table_full}
+use Rattle.refusal.specs.declared.Refusal.{Refusal}
+use Rattle.refusal.specs.Number.{number_of, alignment_invalid, no_fit, table_full}
 use Rattle.memory_range.specs.declared.range.MemoryRange.{MemoryRange}
 use Rattle.memory_range.specs.declared.range.TaggedRange.{TaggedRange}
 use Rattle.memory_range.specs.Align.{aligned_part}
@@ -16,9 +16,6 @@ use Rattle.host_params.specs.declared.AllocationPolicy.TheVariants.{LowMemory, H
 use Rattle.host_params.specs.declared.AllocationType.TheVariants as allocation
 use Rattle.host_params.specs.declared.MemoryVtlType.{MemoryVtlType}
 use Rattle.host_params.specs.declared.MemoryVtlType.TheVariants as vtl
-use Rattle.host_params.specs.declared.OptionU32.TheVariants as node
-use Rattle.host_params.specs.declared.OptionU64.{OptionU64}
-use Rattle.host_params.specs.declared.OptionU64.TheVariants as number
 use Rattle.address_space.specs.declared.list.ReservedRange.{ReservedRange}
 use Rattle.address_space.specs.declared.request.AllocatedRange.{AllocatedRange}
 use Rattle.address_space.specs.declared.table.AddressRange.{AddressRange}
@@ -37,7 +34,7 @@ is_handed (refused n) = false
 is_handed (handed x es) = true
 
 abbrev refusal_of : Outcome → ℕ
-refusal_of (refused n) = n
+refusal_of (refused n) = number_of n
 refusal_of (handed x es) = 0
 
 abbrev start_of : Outcome → ℕ
@@ -52,9 +49,9 @@ abbrev is_none : {A : Type 0} → List A → Bool
 is_none [] = true
 is_none (x ∷ xs) = false
 
-abbrev passes : Option ℕ → Bool
-passes none = true
-passes (some n) = false
+abbrev passes : Option Refusal → Bool
+passes None = true
+passes (Some n) = false
 
 -- an entry of node 0 that is free
 abbrev pub free_at : ℕ → ℕ → List AddressRange
@@ -65,12 +62,12 @@ abbrev pub handed_at : ℕ → ℕ → AllocatedRange
 handed_at start end = record { range = range start end; vnode = 0 }
 
 -- a request of one byte for a sidecar node
-abbrev pub one_byte : AllocationPolicy → OptionU64 → List AddressRange → Outcome
-one_byte policy alignment es = requested node.None 1 allocation.SidecarNode policy alignment es
+abbrev pub one_byte : AllocationPolicy → Option ℕ → List AddressRange → Outcome
+one_byte policy alignment es = requested None 1 allocation.SidecarNode policy alignment es
 
 -- the part above lost: what is left of the entry starts at its end
 pub part_above_lost :
-    one_byte LowMemory number.None (free_at 0x1000 0x3000)
+    one_byte LowMemory None (free_at 0x1000 0x3000)
     ≢ handed (handed_at 0x1000 0x2000) (entry (range 0x1000 0x2000) 0 (Reserved SidecarNode) ∷ free_at 0x3000 0x3000)
 unfolding requested allocated
 part_above_lost e = true≢false (ap (λ (o : Outcome). eqb (bytes_after o) 0x2000) e)
@@ -84,22 +81,22 @@ pub flag-not-set : (x : AllocatedRange) (es : List AddressRange) → pool_of (al
 flag-not-set x es e = true≢false e
 
 -- 24 left to the search, which finds nothing in an empty table
-pub alignment-after_search : one_byte LowMemory (number.Some 3) [] ≢ refused no_fit
+pub alignment-after_search : one_byte LowMemory (Some 3) [] ≢ refused no_fit
 unfolding requested bit_count
-alignment-after_search e = true≢false (ap (λ (o : Outcome). eqb (refusal_of o) alignment_invalid) e)
+alignment-after_search e = true≢false (ap (λ (o : Outcome). eqb (refusal_of o) (number_of alignment_invalid)) e)
 
 -- the start of a high range aligned (P11)
 pub high-start_aligned : (es : List AddressRange)
-    → one_byte HighMemory (number.Some 0x4000) (free_at 0x205000 0x20e000) ≢ handed (handed_at 0x20c000 0x20d000) es
+    → one_byte HighMemory (Some 0x4000) (free_at 0x205000 0x20e000) ≢ handed (handed_at 0x20c000 0x20d000) es
 unfolding requested allocated aligned_part bit_count
 high-start_aligned es e = true≢false (ap (λ (o : Outcome). eqb (start_of o) 0x20b000) e)
 
 -- no-fit where an entry fits
-pub no_fit_where-one-fits : search_refusal node.None 0x1000 LowMemory number.None (free_at 0x1000 0x2000) ≢ some no_fit
+pub no_fit_where-one-fits : search_refusal None 0x1000 LowMemory None (free_at 0x1000 0x2000) ≢ Some no_fit
 no_fit_where-one-fits e = true≢false (ap passes e)
 
 -- an alignment that is not good passed
-pub bad_alignment-passed : search_refusal node.None 0x1000 LowMemory (number.Some 3) (free_at 0x1000 0x3000) ≢ none
+pub bad_alignment-passed : search_refusal None 0x1000 LowMemory (Some 3) (free_at 0x1000 0x3000) ≢ None
 unfolding bit_count
 bad_alignment-passed e = false≢true (ap passes e)
 

@@ -1,13 +1,9 @@
 -- Wrong answers about nodes and shares: the definition gives another one.
-use Rattle.std.specs.Prelude.{ℕ, ◌<◌, ◌≢◌, Bool, true, false, List, [], ◌∷◌, length}
+use Rattle.std.specs.Prelude.{ℕ, ◌<◌, ◌≢◌, Bool, true, false, List, [], ◌∷◌, length, Option, Some, None}
 use Rattle.std.proofs.Common.{ap, arith}
 use Rattle.std.proofs.lemmas.Bool.{false≢true, lt-leb}
-use Rattle.memory_range.specs.declared.round.RoundedUp.{RoundedUp}
-use Rattle.memory_range.specs.declared.round.RoundedUp.TheVariants.{To, TooLarge}
 use Rattle.memory_range.specs.Range.{range}
 use Rattle.memory_range.specs.Round.{rounded_up}
-use Rattle.range_lists.specs.declared.node.NodeCount.{NodeCount}
-use Rattle.range_lists.specs.declared.node.NodeCount.TheVariants.{Count, Full}
 use Rattle.host_params.specs.declared.MemoryEntry.{MemoryEntry}
 use Rattle.host_params.specs.declared.MemoryMapEntryType.TheVariants.{Memory}
 use Rattle.boot_nodes.specs.Node.{nodes_in, max_nodes, nodes_held}
@@ -24,26 +20,26 @@ nodes_with-repeats e = omega (arith, ap length e)
 pub last-entry-not-seen : nodes_in (entry 0x1000 0x2000 0 ∷ entry 0x2000 0x3000 1 ∷ []) ≢ 0 ∷ []
 last-entry-not-seen e = omega (arith, ap length e)
 
-abbrev is_count : NodeCount → Bool
-is_count (Count n) = true
-is_count Full = false
+abbrev is_count : Option ℕ → Bool
+is_count (Some n) = true
+is_count None = false
 
 -- a 65th node held
-pub node-65-held : (ns : List ℕ) (n : ℕ) → max_nodes < length ns → (nodes_held ns).count ≢ Count n
+pub node-65-held : (ns : List ℕ) (n : ℕ) → max_nodes < length ns → (nodes_held ns).count ≢ Some n
 unfolding nodes_held
 node-65-held ns n h = rw (lt-leb (length ns) max_nodes h) (λ e. false≢true (ap is_count e))
 
 -- the bytes of a share; 0 where it is too large
-abbrev bytes_of : RoundedUp → ℕ
-bytes_of (To n) = n
-bytes_of TooLarge = 0
+abbrev bytes_of : Option ℕ → ℕ
+bytes_of (Some n) = n
+bytes_of None = 0
 
 -- rounded before the division
-pub share_rounded-first : share_per_node 65_537 2 ≢ To 65_536
+pub share_rounded-first : share_per_node 65_537 2 ≢ Some 65_536
 unfolding rounded_up
 share_rounded-first e = omega (arith, ap bytes_of e)
 
 -- rounded down
-pub share_rounded_down : share_per_node 65_538 2 ≢ To 32_768
+pub share_rounded_down : share_per_node 65_538 2 ≢ Some 32_768
 unfolding rounded_up
 share_rounded_down e = omega (arith, ap bytes_of e)

@@ -1,10 +1,9 @@
 -- What the file walk means where it is accepted: the chosen pieces hold the file's bytes, the free ones hold
 -- the other bytes of the map, each on its node; and the file lies in the map. Where it is refused, the file does not,
 -- or the pieces are too many.
-use Rattle.std.specs.Prelude.{ℕ, ◌<◌, ◌≡◌, refl, ◌⊎◌, Bool, true, false, cond, List, [], ◌∷◌, eqb}
+use Rattle.std.specs.Prelude.{ℕ, ◌<◌, ◌≡◌, refl, ◌⊎◌, Bool, true, false, cond, List, [], ◌∷◌, eqb, Option, Some, None}
 use Rattle.std.proofs.Common.{ap, sym, ◌∙◌}
 use Rattle.std.proofs.Math.Logic.{inl, inr, ⊎_elim}
-use Rattle.std.proofs.Math.Option.{Option, none, some}
 use native.Mathlib.Omega.{arith}
 use Rattle.memory_range.specs.List.{ranges_in}
 use Rattle.memory_range.specs.declared.range.MemoryRange.{MemoryRange}
@@ -24,6 +23,7 @@ use Rattle.boot_ram.specs.Held.{AtPage, holders_on, free_in, chosen_in, Fits, Pa
 use Rattle.boot_ram.specs.Laws.Judged.{verdicts-all, NotRefused, RefusesAs, judged-accepted, accepted-none_refused, accepted-fits, judged-told}
 use Rattle.boot_ram.specs.Laws.Walks.{ranges_for, is_node, ranges-on}
 use Rattle.boot_ram.specs.Laws.Walks.{both_item, right_only, kept_with, kept, both_bytes, right_bytes, kept-ordered, kept_paged, walk_each}
+use Rattle.refusal.specs.declared.Refusal.{Refusal}
 use Rattle.refusal.specs.Number.{file_not_in_map, too_many_pieces}
 
 free-kept : (m : List TaggedRange) (ps : List WalkPiece) → free_in (file_verdicts m ps) ≡ kept m right_only ps
@@ -47,12 +47,12 @@ chosen-kept m (p ∷ ps) = go p.result (chosen-kept m ps)
     go (Both i j) e = ap (on_node_of m j p.range ∷◌) e
 
 -- where no piece is refused, none lies in the file alone
-none_alone : (m : List TaggedRange) (ps : List WalkPiece) (a i : ℕ) → All NotRefused (file_verdicts m ps) → result_at ps a ≡ some (Left i) → ⊥
+none_alone : (m : List TaggedRange) (ps : List WalkPiece) (a i : ℕ) → All NotRefused (file_verdicts m ps) → result_at ps a ≡ Some (Left i) → ⊥
 none_alone m [] a i n e = let z : ◌≡◌ {A = ℕ} 0 1 = cc in omega arith
 none_alone m (p ∷ ps) a i n e = go p.result n.0 (holds p.range a) e (none_alone m ps a i n.1)
   where
-    go : (h : RangeWalkResult) → NotRefused (file_verdict m p.range h) → (t : Bool) → cond t (some h) (result_at ps a) ≡ some (Left i)
-        → (result_at ps a ≡ some (Left i) → ⊥) → ⊥
+    go : (h : RangeWalkResult) → NotRefused (file_verdict m p.range h) → (t : Bool) → cond t (Some h) (result_at ps a) ≡ Some (Left i)
+        → (result_at ps a ≡ Some (Left i) → ⊥) → ⊥
     go (Left k) q t f rest = q
     go (Right k) q true f rest = let z : ◌≡◌ {A = ℕ} 0 1 = cc in omega arith
     go (Right k) q false f rest = rest f
@@ -98,11 +98,11 @@ module _ (file : MemoryRange) (m : List TaggedRange) (full : file.start < file.e
       go (Both i j) q = tt
       go (Left i) q =
           let one = holders_items 0 0 (file ∷ []) a (omega arith, (full, tt)) ∙ ap counted (sym q.0) in
-          let none = holders_items 0 0 (ranges_in m) a om ∙ ap counted (sym q.1) in
-          absurd (omega (arith, none, inside a (held_by-one file a one)))
+          let outside = holders_items 0 0 (ranges_in m) a om ∙ ap counted (sym q.1) in
+          absurd (omega (arith, outside, inside a (held_by-one file a one)))
 
   -- why a file walk is refused
-  pub file-told : {n : ℕ} → (file_walk file m).refusal ≡ some n
+  pub file-told : {n : Refusal} → (file_walk file m).refusal ≡ Some n
       → ((n ≡ file_not_in_map) × (((a : ℕ) → holds file a ≡ true → 0 < holders (ranges_in m) a) → ⊥))
       ⊎ ((n ≡ too_many_pieces) × (Fits 0 0 (file_verdicts m (file_pieces_in file m)) → ⊥))
   unfolding file_walk
@@ -115,7 +115,7 @@ module _ (file : MemoryRange) (m : List TaggedRange) (full : file.start < file.e
       inr
       (judged-told file_not_in_map 0 0 (file_verdicts m ps) (verdicts-all (RefusesAs file_not_in_map) _ ps numbers) e)
 
-module _ (file : MemoryRange) (m : List TaggedRange) (accepted : (file_walk file m).refusal ≡ none) (full : file.start < file.end)
+module _ (file : MemoryRange) (m : List TaggedRange) (accepted : (file_walk file m).refusal ≡ None) (full : file.start < file.end)
     (om : Ordered 0 (ranges_in m)) where
   one : Ordered 0 (file ∷ [])
   one = (omega arith, (full, tt))
@@ -147,10 +147,10 @@ module _ (file : MemoryRange) (m : List TaggedRange) (accepted : (file_walk file
   unfolding file_walk
   file_in-map a h = go (item_at (ranges_in m) a) (holders_items 0 0 (ranges_in m) a om) (rw h at (walk_at (file ∷ []) (ranges_in m) one om a))
     where
-      go : (v : Option ℕ) → holders (ranges_in m) a ≡ counted v → result_at (file_pieces_in file m) a ≡ held_by (some 0) v
+      go : (v : Option ℕ) → holders (ranges_in m) a ≡ counted v → result_at (file_pieces_in file m) a ≡ held_by (Some 0) v
           → holders (ranges_in m) a ≡ 1
-      go none c e = absurd (none_alone m (file_pieces_in file m) a 0 (accepted-none_refused 0 0 (file_verdicts m (file_pieces_in file m)) accepted) e)
-      go (some j) c e = c
+      go None c e = absurd (none_alone m (file_pieces_in file m) a 0 (accepted-none_refused 0 0 (file_verdicts m (file_pieces_in file m)) accepted) e)
+      go (Some j) c e = c
 
   -- the pieces are no more than can be held
   pub file-fits : Fits 0 0 (file_verdicts m (file_pieces_in file m))

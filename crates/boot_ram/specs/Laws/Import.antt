@@ -1,12 +1,11 @@
 -- What the import walk means where it is accepted: the free pieces hold the bytes of the free entries that no
 -- imported range holds, each on its node; and the imported ranges lie in the file, in the free entries or, under
 -- Tdx, in the page below 4 GiB. Where it is refused, they do not, or the pieces are too many.
-use Rattle.std.specs.Prelude.{ℕ, zero, suc, ◌-◌, ◌^◌, ◌≤◌, ◌<◌, ◌≡◌, ◌⊎◌, Bool, true, false, cond, ◌&&◌, ◌||◌, not, List, [], ◌∷◌, eqb, get_or}
+use Rattle.std.specs.Prelude.{ℕ, zero, suc, ◌-◌, ◌^◌, ◌≤◌, ◌<◌, ◌≡◌, ◌⊎◌, Bool, true, false, cond, ◌&&◌, ◌||◌, not, List, [], ◌∷◌, eqb, get_or, Option, Some, None}
 use Rattle.std.proofs.Math.Path.{refl}
 use Rattle.std.proofs.Common.{ap, sym, ◌∙◌, true≢false, arith, eqb-true, eq-eqb}
 use Rattle.std.proofs.Math.Logic.{inl, inr, ⊎_elim}
 use Rattle.std.proofs.Math.Bool.{or-true, and-eq-true_iff}
-use Rattle.std.proofs.Math.Option.{Option, none, some, none-ne-some}
 use Rattle.memory_range.specs.declared.range.MemoryRange.{MemoryRange}
 use Rattle.memory_range.specs.declared.range.TaggedRange.{TaggedRange}
 use Rattle.range_lists.specs.declared.walk.RangeWalkResult.{RangeWalkResult}
@@ -26,10 +25,12 @@ use Rattle.boot_ram.specs.File.{on_node_of}
 use Rattle.boot_ram.specs.Held.{AtPage, PagedRange, holders_on, free_in, Fits, Paged}
 use Rattle.boot_ram.specs.Import.{imports_clear, is_tdx, is_excused, MayBeImported, is_skipped, import_verdict, import_verdicts, import_walk}
 use Rattle.boot_ram.specs.Verdict.{Verdict, pass, refuse}
+use Rattle.refusal.specs.declared.Refusal.{Refusal}
 use Rattle.refusal.specs.Number.{import_not_in_map, too_many_pieces}
 use Rattle.boot_ram.specs.Laws.Judged.{verdicts-all, NotRefused, RefusesAs, judged-accepted, accepted-none_refused, accepted-fits, judged-told}
 use Rattle.boot_ram.specs.Laws.Walks.{ranges_for, is_node, ranges-on}
 use Rattle.boot_ram.specs.Laws.Walks.{right_only, kept_with, kept, right_bytes, kept-ordered, kept_paged, paged-boundaries, walk_each}
+use Rattle.std.proofs.lemmas.Option.{none-some}
 
 module _ (i : IsolationType) (file : MemoryRange) (imports : List MemoryRange) (m : List TaggedRange) where
   free-kept : (ps : List WalkPiece) → free_in (import_verdicts i file imports m ps) ≡ kept m right_only ps
@@ -52,8 +53,8 @@ module _ (i : IsolationType) (file : MemoryRange) (imports : List MemoryRange) (
   Skipped a k = (r : MemoryRange) × (holds r a ≡ true) × (is_skipped i file (get_or imports k (range 0 0)) r ≡ true)
 
   -- where no piece is refused, one that lies in an imported range alone is passed over
-  alone_skipped : (ps : List WalkPiece) (a k : ℕ) → All NotRefused (import_verdicts i file imports m ps) → result_at ps a ≡ some (Left k) → Skipped a k
-  alone_skipped [] a k n e = absurd (none-ne-some (Left k) e)
+  alone_skipped : (ps : List WalkPiece) (a k : ℕ) → All NotRefused (import_verdicts i file imports m ps) → result_at ps a ≡ Some (Left k) → Skipped a k
+  alone_skipped [] a k n e = absurd (none-some (Left k) e)
   alone_skipped (p ∷ ps) a k n e = go (holds p.range a) refl p.result n.0 e (alone_skipped ps a k n.1)
     where
       not_refused : (t : Bool) → NotRefused (cond t pass (refuse import_not_in_map)) → t ≡ true
@@ -61,7 +62,7 @@ module _ (i : IsolationType) (file : MemoryRange) (imports : List MemoryRange) (
       not_refused false q = absurd q
 
       go : (t : Bool) → holds p.range a ≡ t → (h : RangeWalkResult) → NotRefused (import_verdict i file imports m p.range h)
-          → cond t (some h) (result_at ps a) ≡ some (Left k) → (result_at ps a ≡ some (Left k) → Skipped a k) → Skipped a k
+          → cond t (Some h) (result_at ps a) ≡ Some (Left k) → (result_at ps a ≡ Some (Left k) → Skipped a k) → Skipped a k
       go false s h q f rest = rest f
       go true s (Left j) q f rest = let same : j ≡ k = cc in (p.range, s, not_refused _ (rw same at q))
       go true s (Right j) q f rest = let z : ◌≡◌ {A = ℕ} 0 1 = cc in absurd (omega arith)
@@ -126,7 +127,7 @@ module _ (i : IsolationType) (file : MemoryRange) (imports : List MemoryRange) (
           excused c a h =
               let u = q a h in
               let one = holders_items 0 0 imports a oi ∙ ap counted (sym u.0) in
-              let none = holders_items 0 0 (ranges_in m) a om ∙ ap counted (sym u.1) in
+              let unheld = holders_items 0 0 (ranges_in m) a om ∙ ap counted (sym u.1) in
               let outside : (holds file a ≡ true → ⊥) =
               λ f. let o = (overlap_byte file s).1 (a, f, item-holds imports a k (range 0 0) (sym u.0)) in
               true≢false (sym (rw (o, c) at (clear_at file imports clear k))) in
@@ -152,7 +153,7 @@ module _ (i : IsolationType) (file : MemoryRange) (imports : List MemoryRange) (
 
   -- why an import walk is refused, where the imported ranges are clear of the file
   pub import-told : Ordered 0 imports → Ordered 0 (ranges_in m) → All AtPages imports → Paged m
-      → imports_clear file imports ≡ true → {n : ℕ} → (import_walk i file imports m).refusal ≡ some n
+      → imports_clear file imports ≡ true → {n : Refusal} → (import_walk i file imports m).refusal ≡ Some n
       → ((n ≡ import_not_in_map) × (((a : ℕ) → 0 < holders imports a → MayBeImported i file (ranges_in m) a) → ⊥))
       ⊎ ((n ≡ too_many_pieces) × (Fits 0 0 (import_verdicts i file imports m (walk imports (ranges_in m))) → ⊥))
   unfolding import_walk
@@ -171,7 +172,7 @@ module _ (i : IsolationType) (file : MemoryRange) (imports : List MemoryRange) (
       (judged-told import_not_in_map 0 0 (import_verdicts i file imports m ps) (verdicts-all (RefusesAs import_not_in_map) _ ps numbers) e)
 
 module _ (i : IsolationType) (file : MemoryRange) (imports : List MemoryRange) (m : List TaggedRange)
-    (accepted : (import_walk i file imports m).refusal ≡ none) (oi : Ordered 0 imports) (om : Ordered 0 (ranges_in m)) where
+    (accepted : (import_walk i file imports m).refusal ≡ None) (oi : Ordered 0 imports) (om : Ordered 0 (ranges_in m)) where
   free_is : (import_walk i file imports m).free ≡ kept m right_only (walk imports (ranges_in m))
   unfolding import_walk
   free_is =
@@ -208,9 +209,9 @@ module _ (i : IsolationType) (file : MemoryRange) (imports : List MemoryRange) (
     where
       go : (u : Option ℕ) → item_at imports a ≡ u → holders imports a ≡ counted u → (v : Option ℕ) → holders (ranges_in m) a ≡ counted v
           → result_at (walk imports (ranges_in m)) a ≡ held_by u v → MayBeImported i file (ranges_in m) a
-      go none p c v d e = absurd (omega arith)
-      go (some k) p c (some j) d e = inr (inl (omega arith))
-      go (some k) p c none d e =
+      go None p c v d e = absurd (omega arith)
+      go (Some k) p c (Some j) d e = inr (inl (omega arith))
+      go (Some k) p c None d e =
           let none_refused = accepted-none_refused 0 0 (import_verdicts i file imports m (walk imports (ranges_in m))) accepted in
           let s = alone_skipped i file imports m (walk imports (ranges_in m)) a k none_refused e in
           ⊎_elim inl (λ q. inr (⊎_elim (λ z. absurd (omega arith)) inr q))

@@ -1,9 +1,8 @@
 -- What the file walk and the import walk share: some pieces of a walk are kept as entries, with the nodes of
 -- the items of the right list that they lie in. The laws tell which bytes the kept entries hold, of one node
 -- or of all, that they are in order, and that they start and end at pages.
-use Rattle.std.specs.Prelude.{ℕ, suc, ◌+◌, ◌<◌, ◌≡◌, refl, Bool, true, false, cond, List, [], ◌∷◌, eqb, get_or}
+use Rattle.std.specs.Prelude.{ℕ, suc, ◌+◌, ◌<◌, ◌≡◌, refl, Bool, true, false, cond, List, [], ◌∷◌, eqb, get_or, Option, Some, None}
 use Rattle.std.proofs.Common.{ap, sym, ◌∙◌, arith, zero-add}
-use Rattle.std.proofs.Math.Option.{Option, none, some}
 use Rattle.memory_range.specs.declared.range.MemoryRange.{MemoryRange}
 use Rattle.memory_range.specs.declared.range.TaggedRange.{TaggedRange}
 use Rattle.range_lists.specs.declared.walk.RangeWalkResult.{RangeWalkResult}
@@ -66,7 +65,7 @@ ranges_items t f k a (e ∷ es) x o h =
         ordered_below e.range.end (ranges_for t es) x (ranges-ordered t e.range.end es o.1.1) ((held e.range x).0 q).1
 
     go : (b : Bool) → f k ≡ b → (s : Bool) → holds e.range x ≡ s → holders (ranges_for t es) x ≡ counted_if f (item_found_from (k + 1) (ranges_in es) x)
-        → holders (cond b (e.range ∷ ranges_for t es) (ranges_for t es)) x ≡ counted_if f (cond s (some k) (item_found_from (k + 1) (ranges_in es) x))
+        → holders (cond b (e.range ∷ ranges_for t es) (ranges_for t es)) x ≡ counted_if f (cond s (Some k) (item_found_from (k + 1) (ranges_in es) x))
     go true p true q rest = rw (q, p) (omega (arith, none-behind q))
     go true p false q rest = rw q (omega arith)
     go false p true q rest = rw p (none-behind q)
@@ -74,27 +73,27 @@ ranges_items t f k a (e ∷ es) x o h =
 
 -- the item of the right list that a piece lies in, where the left list holds the piece too, and where it does not
 abbrev pub both_item : RangeWalkResult → Option ℕ
-both_item (Left i) = none
-both_item (Right j) = none
-both_item (Both i j) = some j
+both_item (Left i) = None
+both_item (Right j) = None
+both_item (Both i j) = Some j
 
 abbrev pub right_only : RangeWalkResult → Option ℕ
-right_only (Left i) = none
-right_only (Right j) = some j
-right_only (Both i j) = none
+right_only (Left i) = None
+right_only (Right j) = Some j
+right_only (Both i j) = None
 
 -- the pieces for which side tells an item, as entries with that item's node
 abbrev pub kept_with : List TaggedRange → MemoryRange → Option ℕ → List TaggedRange → List TaggedRange
-kept_with m r none xs = xs
-kept_with m r (some j) xs = on_node_of m j r ∷ xs
+kept_with m r None xs = xs
+kept_with m r (Some j) xs = on_node_of m j r ∷ xs
 
 abbrev pub kept : List TaggedRange → (RangeWalkResult → Option ℕ) → List WalkPiece → List TaggedRange
 kept m side [] = []
 kept m side (p ∷ ps) = kept_with m p.range (side p.result) (kept m side ps)
 
 abbrev passes : (ℕ → Bool) → Option ℕ → Bool
-passes f none = false
-passes f (some j) = f j
+passes f None = false
+passes f (Some j) = f j
 
 -- the test of an item by its node
 abbrev by_node : (ℕ → Bool) → List TaggedRange → ℕ → Bool
@@ -108,20 +107,20 @@ kept-picked t m side (p ∷ ps) = go (side p.result) (kept-picked t m side ps)
     go : (u : Option ℕ) → ranges_for t (kept m side ps) ≡ picked (λ h. passes (by_node t m) (side h)) ps
         → ranges_for t (kept_with m p.range u (kept m side ps))
         ≡ cond (passes (by_node t m) u) (p.range ∷ picked (λ h. passes (by_node t m) (side h)) ps) (picked (λ h. passes (by_node t m) (side h)) ps)
-    go none e = e
-    go (some j) e = rw e
+    go None e = e
+    go (Some j) e = rw e
 
 held_both : (f : ℕ → Bool) (u v : Option ℕ) → counted_if (λ h. passes f (both_item h)) (held_by u v) ≡ cond (eqb (counted u) 0) 0 (counted_if f v)
-held_both f none none = refl
-held_both f none (some j) = refl
-held_both f (some i) none = refl
-held_both f (some i) (some j) = refl
+held_both f None None = refl
+held_both f None (Some j) = refl
+held_both f (Some i) None = refl
+held_both f (Some i) (Some j) = refl
 
 held-right : (f : ℕ → Bool) (u v : Option ℕ) → counted_if (λ h. passes f (right_only h)) (held_by u v) ≡ cond (eqb (counted u) 0) (counted_if f v) 0
-held-right f none none = refl
-held-right f none (some j) = refl
-held-right f (some i) none = refl
-held-right f (some i) (some j) = refl
+held-right f None None = refl
+held-right f None (Some j) = refl
+held-right f (Some i) None = refl
+held-right f (Some i) (Some j) = refl
 
 kept-all : (P : MemoryRange → Type 0) (m : List TaggedRange) (side : RangeWalkResult → Option ℕ) (ps : List WalkPiece)
     → All P (piece_ranges ps) → All (λ x. P x.range) (kept m side ps)
@@ -129,8 +128,8 @@ kept-all P m side [] h = tt
 kept-all P m side (p ∷ ps) h = go (side p.result) (kept-all P m side ps h.1)
   where
     go : (u : Option ℕ) → All (λ x. P x.range) (kept m side ps) → All (λ x. P x.range) (kept_with m p.range u (kept m side ps))
-    go none rest = rest
-    go (some j) rest = (h.0, rest)
+    go None rest = rest
+    go (Some j) rest = (h.0, rest)
 
 pieces_paged : (a : ℕ) (ps : List WalkPiece) → Ordered a (piece_ranges ps) → All (λ p. AtPage p.range.start × AtPage p.range.end) ps
     → All PagedRange (piece_ranges ps)

@@ -2,11 +2,10 @@
 -- from the node's own free entries, no byte twice; in whole pages. A node that is not asked for gets nothing.
 -- And a taking that is refused has a node whose free bytes are below its need, or too many pieces.
 -- Each is shown of the taking of one need from a list of entries first.
-use Rattle.std.specs.Prelude.{ℕ, ◌+◌, ◌-◌, ◌≤◌, ◌<◌, ◌≡◌, refl, Bool, true, false, cond, ◌⊎◌, List, [], ◌∷◌, ◌++◌, reverse, eqb, length}
+use Rattle.std.specs.Prelude.{ℕ, ◌+◌, ◌-◌, ◌≤◌, ◌<◌, ◌≡◌, refl, Bool, true, false, cond, ◌⊎◌, List, [], ◌∷◌, ◌++◌, reverse, eqb, length, Some, None}
 use Rattle.std.proofs.Common.{sym, ◌∙◌, true≢false, append-nil, arith, eqb-true, eq-eqb, le-ltb}
 use Rattle.std.proofs.Math.Bool.{and-false, or-true}
 use Rattle.std.proofs.Math.Logic.{inl, inr, ⊎_elim}
-use Rattle.std.proofs.Math.Option.{none, some}
 use Rattle.std.proofs.Math.Decide.{dec_le}
 use Rattle.std.proofs.lemmas.Bool.{eqb-false, lt-leb}
 use Rattle.memory_range.specs.List.{ranges_in}
@@ -25,6 +24,7 @@ use Rattle.boot_ram.specs.Laws.Judged.{NotRefused, RefusesAs, judged-accepted, a
 use Rattle.memory_range.specs.Laws.Bytes.{all_append, all_split, all-reverse}
 use Rattle.boot_ram.specs.Laws.OnNode.{all-on, on_append, on_same, on_other, holders-reverse}
 use Rattle.memory_range.specs.Laws.Count.{bytes_same}
+use Rattle.refusal.specs.declared.Refusal.{Refusal}
 use Rattle.refusal.specs.Number.{node_too_small, too_many_pieces}
 
 -- the bytes taken meet a need: they are as many, or less than one step more, and none where there is no need
@@ -195,14 +195,14 @@ module _ (share : ℕ) (pieces free : List TaggedRange) where
       (take_refuses m (need_on share pieces m) (on_node m (reverse free))) (all_refuses ns)
 
   -- why a taking is refused
-  pub taking-told : (nodes : List ℕ) {n : ℕ} → (taking share pieces free nodes).refusal ≡ some n
+  pub taking-told : (nodes : List ℕ) {n : Refusal} → (taking share pieces free nodes).refusal ≡ Some n
       → ((n ≡ node_too_small) × (Enough nodes → ⊥)) ⊎ ((n ≡ too_many_pieces) × (Fits 0 (length pieces) (take_all_of share pieces free nodes) → ⊥))
   unfolding taking
   taking-told nodes e =
       ⊎_elim (λ t. inl (t.0, λ h. t.1 (all-kept nodes h))) inr
       (judged-told node_too_small 0 (length pieces) (take_all_of share pieces free nodes) (all_refuses nodes) e)
 
-  module _ (nodes : List ℕ) (accepted : (taking share pieces free nodes).refusal ≡ none) where
+  module _ (nodes : List ℕ) (accepted : (taking share pieces free nodes).refusal ≡ None) where
     chosen-all : (taking share pieces free nodes).chosen ≡ of_all nodes
     unfolding taking
     chosen-all = (judged-accepted 0 (length pieces) (take_all_of share pieces free nodes) accepted).1

@@ -1,7 +1,6 @@
 -- Wrong answers of the calls from C, each refuted (docs/PROVED.md).
-use Rattle.std.specs.Prelude.{ℕ, false, List, [], ◌∷◌, ◌≢◌, eqb, length, get_or, replicate}
+use Rattle.std.specs.Prelude.{ℕ, false, List, [], ◌∷◌, ◌≢◌, eqb, length, get_or, replicate, Option, Some, Ok, Err}
 use Rattle.std.proofs.Common.{ap, true≢false}
-use Rattle.std.proofs.Math.Option.{Option, some}
 use Rattle.memory_range.specs.declared.range.TaggedRange.{TaggedRange}
 use Rattle.memory_range.specs.List.{tagged}
 use Rattle.memory_range.specs.Range.{range}
@@ -12,7 +11,9 @@ use Rattle.address_space.specs.declared.usage.AddressUsage.TheVariants.{Used}
 use Rattle.address_space.specs.Request.{allocated}
 use Rattle.address_space.specs.Table.{entry}
 use Rattle.private_pool.specs.Pool.{pool_placed}
-use Rattle.table_words.specs.Code.{Call, refused, done, no_room, bad_table}
+use Rattle.table_words.specs.declared.code.CallError.{CallError}
+use Rattle.table_words.specs.declared.code.CallError.TheVariants.{NoRoom}
+use Rattle.table_words.specs.Code.{Call, code_of, bad_table}
 use Rattle.table_words.specs.Table.{table, table_of}
 use Rattle.table_words.specs.Usage.{usage_of_word}
 use Rattle.bootplan_c.specs.Build.{build_table}
@@ -21,13 +22,9 @@ use Rattle.bootplan_c.specs.Ranges.{ranges_on, ranges_call}
 use Rattle.bootplan_c.specs.Sizing.{picked_size, or_kept}
 
 -- what the answers are told apart by
-abbrev number_of : {A : Type 0} → Call A → ℕ
-number_of (refused n) = n
-number_of (done a) = 0
-
 abbrev count_of : Call (List TaggedRange) → ℕ
-count_of (refused n) = 0
-count_of (done xs) = length xs
+count_of (Err e) = 0
+count_of (Ok xs) = length xs
 
 -- the hint of the other table, for 16 processors and 512 MiB
 pub hint_of_other-table : dma_hint_of Debug 16 0x20000000 ≢ dma_hint_of Release 16 0x20000000
@@ -53,7 +50,7 @@ pub size-without-pool : or_kept (picked_size 0 5 false 0 2 0x6000000) 7 ≢ 0
 size-without-pool e = true≢false (ap (eqb 7) e)
 
 -- a refused build that writes
-pub refused-build_writes : (n : ℕ) → build_table (0 ∷ 0 ∷ []) (refused n) ≢ 1 ∷ 0 ∷ []
+pub refused-build_writes : (n : CallError) → build_table (0 ∷ 0 ∷ []) (Err n) ≢ 1 ∷ 0 ∷ []
 refused-build_writes n e = true≢false (ap (λ (ws : List ℕ). eqb (get_or ws 0 0) 0) e)
 
 -- a table of one free page, as words
@@ -71,12 +68,12 @@ unfolding pool_call table_of pool_placed allocated usage_of_word
 piece_more e = true≢false (ap (eqb 1) e)
 
 -- words that are no table told as no room
-pub no-table_as_no_room : ranges_call [] 768 ≢ refused no_room
+pub no-table_as_no_room : ranges_call [] 768 ≢ Err NoRoom
 unfolding ranges_call table_of
-no-table_as_no_room e = true≢false (ap (λ (c : Call (List TaggedRange)). eqb (number_of c) bad_table) e)
+no-table_as_no_room e = true≢false (ap (λ (c : Call (List TaggedRange)). eqb (code_of c) bad_table) e)
 
 -- ranges not joined
 pub ranges-not_joined :
-    ranges_on (some (table (entry (range 0x1000 0x2000) 0 Used ∷ entry (range 0x2000 0x3000) 0 Used ∷ []) false))
-    ≢ done (tagged 0x1000 0x2000 0 ∷ tagged 0x2000 0x3000 0 ∷ [])
+    ranges_on (Some (table (entry (range 0x1000 0x2000) 0 Used ∷ entry (range 0x2000 0x3000) 0 Used ∷ []) false))
+    ≢ Ok (tagged 0x1000 0x2000 0 ∷ tagged 0x2000 0x3000 0 ∷ [])
 ranges-not_joined e = true≢false (ap (λ (c : Call (List TaggedRange)). eqb (count_of c) 1) e)

@@ -1,14 +1,13 @@
 -- Wrong answers about the pool's size: for one guest the definition gives another one.
-use Rattle.std.specs.Prelude.{ℕ, ◌*◌, ◌≢◌}
-use Rattle.std.proofs.Math.Option.{some, none-ne-some}
+use Rattle.std.specs.Prelude.{ℕ, ◌*◌, ◌≢◌, Some, None}
 use Rattle.std.proofs.Common.{arith}
-use Rattle.host_params.specs.declared.OptionU64.TheVariants as host
 use Rattle.host_params.specs.declared.Vtl2GpaPoolConfig.TheVariants as config
 use Rattle.host_params.specs.declared.Vtl2GpaPoolLookupTable.{Vtl2GpaPoolLookupTable}
 use Rattle.host_params.specs.declared.Vtl2GpaPoolLookupTable.TheVariants.{Release, Debug}
 use Rattle.dma_hint.specs.Table.{release, debug}
 use Rattle.dma_hint.specs.Hint.{memory_bound, dma_hint_of}
 use Rattle.dma_hint.specs.Pool.{pool_size}
+use Rattle.std.proofs.lemmas.Option.{none-some}
 
 -- the hint for so many MiB of memory
 abbrev hint : Vtl2GpaPoolLookupTable → ℕ → ℕ → ℕ
@@ -39,8 +38,8 @@ pub bound_looked_up : dma_hint_of Release 2 memory_bound ≢ 30_331_355_648
 bound_looked_up = omega arith
 
 -- 0 pages for off
-pub off_as_no-pages : pool_size config.Off host.None 4 0x10000000 ≢ some 0
-off_as_no-pages = none-ne-some 0
+pub off_as_no-pages : pool_size config.Off None 4 0x10000000 ≢ Some 0
+off_as_no-pages = none-some 0
 
 -- pages cut down to a step
 pub cut_down_to_step : hint Release 2 99 ≢ 512

@@ -1,9 +1,10 @@
 -- What is handed out is cut from the free ranges (that it is what the rule gives of them: proofs/Allocated).
-use Rattle.std.specs.Prelude.{ℕ, min, max, ◌%◌, ◌≤◌, ◌<◌, Bool, true, false, cond, List, [], ◌∷◌, ◌++◌, ◌⊎◌, ltb, length}
+use Rattle.std.specs.Prelude.{ℕ, min, max, ◌%◌, ◌≤◌, ◌<◌, Bool, true, false, cond, List, [], ◌∷◌, ◌++◌, ◌⊎◌, ltb, length, Option}
 use Rattle.std.proofs.Math.Path.{◌≡◌, refl}
 use Rattle.std.proofs.Common.{ap, ◌∙◌, append_assoc, arith, lt-ltb, le-ltb}
 use Rattle.std.proofs.Math.Logic.{inl, inr}
 use Rattle.std.proofs.Math.Nat.{min-eq_left, min-eq_right, max-eq_left, max-eq_right}
+use Rattle.refusal.specs.declared.Refusal.{Refusal}
 use Rattle.refusal.specs.Number.{no_fit, table_full}
 use Rattle.memory_range.specs.declared.range.MemoryRange.{MemoryRange}
 use Rattle.memory_range.specs.declared.range.TaggedRange.{TaggedRange}
@@ -14,8 +15,6 @@ use Rattle.memory_range.specs.Valid.{page_size}
 use Rattle.host_params.specs.declared.AllocationPolicy.{AllocationPolicy}
 use Rattle.host_params.specs.declared.AllocationType.{AllocationType}
 use Rattle.host_params.specs.declared.AllocationType.TheVariants.{GpaPool, SidecarNode, TdxPageTables}
-use Rattle.host_params.specs.declared.OptionU32.{OptionU32}
-use Rattle.host_params.specs.declared.OptionU64.{OptionU64}
 use Rattle.address_space.specs.declared.request.AllocatedRange.{AllocatedRange}
 use Rattle.address_space.specs.declared.table.AddressRange.{AddressRange}
 use Rattle.address_space.specs.Fit.{aligned_to, fits_in}
@@ -34,7 +33,7 @@ use Rattle.ledger.specs.Ledger.{over, cut}
 use Rattle.ledger.specs.Claim.{free_of}
 
 -- what is placed and refused has too many entries
-placed_refused : (x : AllocatedRange) (xs : List AddressRange) (n : ℕ) → placed_as x xs ≡ refused n → n ≡ table_full
+placed_refused : (x : AllocatedRange) (xs : List AddressRange) (n : Refusal) → placed_as x xs ≡ refused n → n ≡ table_full
 placed_refused x xs n h = go (ltb max_address_ranges (length xs)) h
   where
     go : (t : Bool) → cond t (refused table_full) (handed x xs) ≡ refused n → n ≡ table_full
@@ -109,7 +108,7 @@ module _ (e : AddressRange) (higher : List AddressRange) (used : MemoryRange) (t
       (inl (omega arith)) (cut_split x.range.end lower o.1.1)
 
 -- the search and the split, for a length in whole pages
-module _ (asked : OptionU32) (len : ℕ) (type : AllocationType) (policy : AllocationPolicy) (alignment : OptionU64) (es : List AddressRange) where
+module _ (asked : Option ℕ) (len : ℕ) (type : AllocationType) (policy : AllocationPolicy) (alignment : Option ℕ) (es : List AddressRange) where
   -- what is taken from an entry that was found, and the entries that this leaves
   abbrev pub taken : AddressRange → AllocatedRange
   taken e = record { range = allotted policy len (aligned_to alignment e.range); vnode = e.vnode }
@@ -118,7 +117,7 @@ module _ (asked : OptionU32) (len : ℕ) (type : AllocationType) (policy : Alloc
   left before e after = below_in policy before after ++ split_entry (taken e).range (usage_for type) e ++ above_in policy before after
 
   -- it is refused for want of a fit, or as too many entries
-  pub allocated_refusals : (n : ℕ) → allocated asked len type policy alignment es ≡ refused n → (n ≡ no_fit) ⊎ (n ≡ table_full)
+  pub allocated_refusals : (n : Refusal) → allocated asked len type policy alignment es ≡ refused n → (n ≡ no_fit) ⊎ (n ≡ table_full)
   unfolding allocated
   allocated_refusals n h = go (searched policy (fits_in asked len alignment) es) h
     where
@@ -141,7 +140,7 @@ module _ (asked : OptionU32) (len : ℕ) (type : AllocationType) (policy : Alloc
     where
       go : (s : Search AddressRange) → searched policy (fits_in asked len alignment) es ≡ s → placed_from len type policy alignment s ≡ handed x es'
           → From x es'
-      go nothing p q = absurd (let z : ◌≡◌ {A = ℕ} 0 1 = cc in omega arith)
+      go nothing p q = cc
       go (found before e after) p q =
           let same = placed-handed (taken e) (left before e after) x es' q in
           record { before = before; chosen = e; after = after; finds = p; gives = same.0; leaves = same.1 }

@@ -1,8 +1,7 @@
 -- Laws of cutting ranges from a list of tagged ranges: what the list says of each byte afterwards, that it stays in order, and that neighbours
 -- still touch only at seams, none of which lies inside a range.
-use Rattle.std.specs.Prelude.{ℕ, ◌+◌, ◌≤◌, ◌<◌, min, max, ◌≡◌, refl, Bool, true, false, cond, List, [], ◌∷◌, ◌++◌, ltb}
+use Rattle.std.specs.Prelude.{ℕ, ◌+◌, ◌≤◌, ◌<◌, min, max, ◌≡◌, refl, Bool, true, false, cond, List, [], ◌∷◌, ◌++◌, ltb, Option, Some, None}
 use Rattle.std.proofs.Common.{sym, ◌∙◌, append_assoc, arith, zero-add, lt-ltb, le-ltb}
-use Rattle.std.proofs.Math.Option.{Option, none, some}
 use Rattle.std.proofs.Math.Decide.{dec_lt}
 use Rattle.memory_range.specs.declared.range.MemoryRange.{MemoryRange}
 use Rattle.memory_range.specs.declared.range.TaggedRange.{TaggedRange}
@@ -26,11 +25,11 @@ over_either P n s e rest f g = go (dec_lt s e)
     go (yes h) = rw (lt-ltb s e h) (f h)
     go (no h) = rw (le-ltb s e (omega arith)) (g (omega arith))
 
-over_tag : (n s e : ℕ) (rest : List TaggedRange) (a : ℕ) → tag_at (over n s e ++ rest) a ≡ cond (holds (range s e) a) (some n) (tag_at rest a)
+over_tag : (n s e : ℕ) (rest : List TaggedRange) (a : ℕ) → tag_at (over n s e ++ rest) a ≡ cond (holds (range s e) a) (Some n) (tag_at rest a)
 over_tag n s e rest a =
-    over_either (λ l. tag_at l a ≡ cond (holds (range s e) a) (some n) (tag_at rest a)) n s e rest (λ h. refl) (λ h. go h (place (range s e) a))
+    over_either (λ l. tag_at l a ≡ cond (holds (range s e) a) (Some n) (tag_at rest a)) n s e rest (λ h. refl) (λ h. go h (place (range s e) a))
   where
-    go : e ≤ s → Place (range s e) a → tag_at rest a ≡ cond (holds (range s e) a) (some n) (tag_at rest a)
+    go : e ≤ s → Place (range s e) a → tag_at rest a ≡ cond (holds (range s e) a) (Some n) (tag_at rest a)
     go h (below l f) = rw f
     go h (inside l k f) = absurd (omega arith)
     go h (above l f) = rw f
@@ -40,8 +39,8 @@ same_either true v = refl
 same_either false v = refl
 
 -- the bytes of r are in no range any more; of every other byte the same is said
-pub cut_tag : (r : MemoryRange) (xs : List TaggedRange) (a : ℕ) → tag_at (cut r xs) a ≡ cond (holds r a) none (tag_at xs a)
-cut_tag r [] a = sym (same_either (holds r a) none)
+pub cut_tag : (r : MemoryRange) (xs : List TaggedRange) (a : ℕ) → tag_at (cut r xs) a ≡ cond (holds r a) None (tag_at xs a)
+cut_tag r [] a = sym (same_either (holds r a) None)
 cut_tag r (x ∷ xs) a =
     rw (append_assoc, over_tag, over_tag, cut_tag r xs a) (go (place x.range a) (place r a))
   where
@@ -52,8 +51,8 @@ cut_tag r (x ∷ xs) a =
     high = range (max x.range.start r.end) x.range.end
 
     go : Place x.range a → Place r a
-        → cond (holds low a) (some x.tag) (cond (holds high a) (some x.tag) (cond (holds r a) none (tag_at xs a)))
-        ≡ cond (holds r a) none (cond (holds x.range a) (some x.tag) (tag_at xs a))
+        → cond (holds low a) (Some x.tag) (cond (holds high a) (Some x.tag) (cond (holds r a) None (tag_at xs a)))
+        ≡ cond (holds r a) None (cond (holds x.range a) (Some x.tag) (tag_at xs a))
     go (below l f) p = rw (not_below low a l, not_below high a (omega arith), f)
     go (above l f) p = rw (not_above low a (omega arith), not_above high a l, f)
     go (inside l k f) (below m g) = rw ((held low a).1 (l, omega arith), g, f)
@@ -146,10 +145,10 @@ module _ (Seam : ℕ → Type 0) where
   each_whole (r ∷ rs) xs h w = each_whole rs (cut r xs) h.1 (cut_whole Seam r h.0 xs w)
 
 -- a byte that one of them holds is in no range any more; of every other byte the same is said
-pub each_tag : (rs : List MemoryRange) (xs : List TaggedRange) (a : ℕ) → tag_at (cut_each rs xs) a ≡ cond (ltb 0 (holders rs a)) none (tag_at xs a)
+pub each_tag : (rs : List MemoryRange) (xs : List TaggedRange) (a : ℕ) → tag_at (cut_each rs xs) a ≡ cond (ltb 0 (holders rs a)) None (tag_at xs a)
 each_tag [] xs a = refl
 each_tag (r ∷ rs) xs a = each_tag rs (cut r xs) a ∙ rw (cut_tag r xs a) (go (holds r a))
   where
-    go : (t : Bool) → cond (ltb 0 (holders rs a)) none (cond t none (tag_at xs a)) ≡ cond (ltb 0 (cond t 1 0 + holders rs a)) none (tag_at xs a)
-    go true = rw (lt-ltb 0 (1 + holders rs a) (omega arith)) (same_either (ltb 0 (holders rs a)) none)
+    go : (t : Bool) → cond (ltb 0 (holders rs a)) None (cond t None (tag_at xs a)) ≡ cond (ltb 0 (cond t 1 0 + holders rs a)) None (tag_at xs a)
+    go true = rw (lt-ltb 0 (1 + holders rs a) (omega arith)) (same_either (ltb 0 (holders rs a)) None)
     go false = rw zero-add

@@ -1,7 +1,7 @@
 -- Demand 3 of the planner that the definitions are: the selection and the build (whole, with the calls: proofs/Demand), and what it says of a plan.
-use Rattle.std.specs.Prelude.{ℕ, ◌+◌, ◌≤◌, ◌<◌, ◌≡◌, refl, true, List}
-use Rattle.std.proofs.Common.{ap, sym, ◌∙◌}
-use Rattle.std.proofs.Math.Option.{some, some-injective, none-ne-some}
+use Rattle.std.specs.Prelude.{ℕ, ◌+◌, ◌≤◌, ◌<◌, ◌≡◌, refl, true, List, Option, Some}
+use Rattle.std.proofs.Common.{ap}
+use Rattle.std.proofs.lemmas.Option.{same_Some}
 use Rattle.memory_range.specs.declared.range.MemoryRange.{MemoryRange}
 use Rattle.memory_range.specs.declared.range.TaggedRange.{TaggedRange}
 use Rattle.memory_range.specs.List.{tags_of}
@@ -10,10 +10,8 @@ use Rattle.host_params.specs.declared.IsolationType.{IsolationType}
 use Rattle.host_params.specs.declared.MemoryAllocationMode.{MemoryAllocationMode}
 use Rattle.host_params.specs.declared.MemoryAllocationMode.TheVariants.{Vtl2}
 use Rattle.host_params.specs.declared.MemoryEntry.{MemoryEntry}
-use Rattle.host_params.specs.declared.OptionU64.{OptionU64}
 use Rattle.boot_nodes.specs.Share.{share_step}
 use Rattle.boot_ram.specs.Held.{on_node, bytes_of}
-use Rattle.boot_take.specs.Laws.Stored.{stored-first}
 use Rattle.vtl2_ram.specs.Choice.{Choice, refused, chosen}
 use Rattle.vtl2_ram.specs.Claim.{share_in, due_on}
 use Rattle.host_map.specs.Map.{entries_in}
@@ -30,19 +28,17 @@ use Rattle.ledger.specs.Call.{Call}
 use Rattle.ledger.specs.Planner.{Planner, planner, selection_of}
 use Rattle.ledger.specs.Claim.{Claim, last_table, SelectionClaim, Demand3}
 
-module _ (mode : MemoryAllocationMode) (isolation : IsolationType) (size : OptionU64) (file : MemoryRange) (map : List MemoryEntry)
+module _ (mode : MemoryAllocationMode) (isolation : IsolationType) (size : Option ℕ) (file : MemoryRange) (map : List MemoryEntry)
     (imports : List MemoryRange) (ram : List TaggedRange) where
   -- the selection's answer holds the RAM of the definition
-  answer-same : selection_of (ram_as (choice mode isolation size file map imports)) ≡ some ram → choice mode isolation size file map imports ≡ chosen ram
+  answer-same : selection_of (ram_as (choice mode isolation size file map imports)) ≡ Some ram → choice mode isolation size file map imports ≡ chosen ram
   answer-same e = go (choice mode isolation size file map imports) refl e
     where
-      go : (c : Choice) → choice mode isolation size file map imports ≡ c → selection_of (ram_as c) ≡ some ram → c ≡ chosen ram
-      go (refused n) p q = absurd (none-ne-some ram q)
-      go (chosen xs) p q =
-          let stored = stored-first (record { starts = refl; ends = refl; tags = refl }) (chosen_in_order isolation size file map imports xs mode p).count in
-          ap chosen (sym stored ∙ some-injective _ ram q)
+      go : (c : Choice) → choice mode isolation size file map imports ≡ c → selection_of (ram_as c) ≡ Some ram → c ≡ chosen ram
+      go (refused n) p q = cc
+      go (chosen xs) p q = ap chosen (same_Some xs ram q)
 
-  pub selection-holds : selection_of (ram_as (choice mode isolation size file map imports)) ≡ some ram → SelectionClaim mode isolation size file map imports ram
+  pub selection-holds : selection_of (ram_as (choice mode isolation size file map imports)) ≡ Some ram → SelectionClaim mode isolation size file map imports ram
   selection-holds e =
       let same = answer-same e in
       record {
@@ -52,18 +48,15 @@ module _ (mode : MemoryAllocationMode) (isolation : IsolationType) (size : Optio
       }
 
   -- and an accepted map's RAM is in it
-  pub selects-same : choice mode isolation size file map imports ≡ chosen ram → selection_of (ram_as (choice mode isolation size file map imports)) ≡ some ram
-  selects-same e =
-      rw e
-      (ap some
-      (stored-first (record { starts = refl; ends = refl; tags = refl }) (chosen_in_order isolation size file map imports ram mode e).count))
+  pub selects-same : choice mode isolation size file map imports ≡ chosen ram → selection_of (ram_as (choice mode isolation size file map imports)) ≡ Some ram
+  selects-same e = rw e
 
 pub builds-some : (b : AddressSpaceManagerBuilder) (ram : List TaggedRange) (configs pools : List MemoryRange) (es : List AddressRange)
-    → build b 0 ram configs pools ≡ built es → (s : AddressSpaceManager) × (planner.build b ram configs pools ≡ some s)
+    → build b 0 ram configs pools ≡ built es → (s : AddressSpaceManager) × (planner.build b ram configs pools ≡ Some s)
 builds-some b ram configs pools es e = (table_with empty_table es (has_pool pools), rw e)
 
 -- from an accepted map through the build from its RAM to the table after any list of calls: in boot mode each node of the map has what is due to it there
-pub record Planned (P : Planner) (mode : MemoryAllocationMode) (isolation : IsolationType) (size : OptionU64) (file : MemoryRange) (map : List MemoryEntry)
+pub record Planned (P : Planner) (mode : MemoryAllocationMode) (isolation : IsolationType) (size : Option ℕ) (file : MemoryRange) (map : List MemoryEntry)
     (imports : List MemoryRange) (ram : List TaggedRange) (b : AddressSpaceManagerBuilder) (configs pools : List MemoryRange) (s : P.State)
     (calls : List Call) : Type 0 where
   pub selection : SelectionClaim mode isolation size file map imports ram
@@ -73,9 +66,9 @@ pub record Planned (P : Planner) (mode : MemoryAllocationMode) (isolation : Isol
       let due = due_on (share_in size file map) file (entries_in map) n in
       (due ≤ total) × (total < due + share_step)
 
-pub planned : (P : Planner) → Demand3 P → (mode : MemoryAllocationMode) (isolation : IsolationType) (size : OptionU64) (file : MemoryRange)
-    (map : List MemoryEntry) (imports : List MemoryRange) (ram : List TaggedRange) → P.select mode isolation size file map imports ≡ some ram
-    → (b : AddressSpaceManagerBuilder) (configs pools : List MemoryRange) (s : P.State) → P.build b ram configs pools ≡ some s
+pub planned : (P : Planner) → Demand3 P → (mode : MemoryAllocationMode) (isolation : IsolationType) (size : Option ℕ) (file : MemoryRange)
+    (map : List MemoryEntry) (imports : List MemoryRange) (ram : List TaggedRange) → P.select mode isolation size file map imports ≡ Some ram
+    → (b : AddressSpaceManagerBuilder) (configs pools : List MemoryRange) (s : P.State) → P.build b ram configs pools ≡ Some s
     → (calls : List Call) → Planned P mode isolation size file map imports ram b configs pools s calls
 planned P d mode isolation size file map imports ram e b configs pools s f calls =
     let selection = d.selection mode isolation size file map imports ram e in

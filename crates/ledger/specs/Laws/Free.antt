@@ -1,9 +1,8 @@
 -- The free entries of a table: they are in order where the table is, and say of a byte its node exactly where the table says that it is free; which of them
 -- fit, and that a search finds the same in them as in the table.
-use Rattle.std.specs.Prelude.{ℕ, ◌≡◌, refl, Bool, true, false, cond, ◌&&◌, ◌||◌, ◌↔◌}
+use Rattle.std.specs.Prelude.{ℕ, ◌≡◌, refl, Bool, true, false, cond, ◌&&◌, ◌||◌, ◌↔◌, Option, Some, None}
 use Rattle.std.proofs.Common.{ap, ◌∙◌, arith}
 use mathlib.Core.List.{List, [], ◌∷◌, ◌++◌, reverse, reverse-cons, append-nil}
-use Rattle.std.proofs.Math.Option.{Option, none, some}
 use Rattle.memory_range.specs.declared.range.TaggedRange.{TaggedRange}
 use Rattle.memory_range.specs.Bytes.{Ordered, All}
 use Rattle.memory_range.specs.List.{ranges_in}
@@ -12,8 +11,6 @@ use Rattle.memory_range.specs.Laws.Bytes.{ordered-before}
 use Rattle.memory_range.specs.Laws.Range.{held}
 use Rattle.host_params.specs.declared.AllocationPolicy.{AllocationPolicy}
 use Rattle.host_params.specs.declared.AllocationPolicy.TheVariants.{LowMemory, HighMemory}
-use Rattle.host_params.specs.declared.OptionU32.{OptionU32}
-use Rattle.host_params.specs.declared.OptionU64.{OptionU64}
 use Rattle.address_space.specs.declared.table.AddressRange.{AddressRange}
 use Rattle.address_space.specs.Fit.{fits_in}
 use Rattle.address_space.specs.Search.{Search, nothing, found, past, first_of, in_order_of}
@@ -43,15 +40,15 @@ free-ordered b (e ∷ es) o = go (is_free e.usage) (free-ordered e.range.end es 
 
 -- the node of a byte that is said to be free
 abbrev pub free_node : Option Note → Option ℕ
-free_node none = none
-free_node (some x) = cond (is_free x.usage) (some x.node) none
+free_node None = None
+free_node (Some x) = cond (is_free x.usage) (Some x.node) None
 
 pub free_tag : (b : ℕ) (es : List AddressRange) (a : ℕ) → Ordered b (ranges_at es) → tag_at (free_of es) a ≡ free_node (note_at es a)
 free_tag b [] a o = refl
 free_tag b (e ∷ es) a o = go (is_free e.usage) refl (holds e.range a) refl (free_tag e.range.end es a o.1.1)
   where
     go : (f : Bool) → is_free e.usage ≡ f → (t : Bool) → holds e.range a ≡ t → tag_at (free_of es) a ≡ free_node (note_at es a)
-        → tag_at (cond f (noded_range e ∷ free_of es) (free_of es)) a ≡ free_node (cond t (some (note e.vnode e.usage)) (note_at es a))
+        → tag_at (cond f (noded_range e ∷ free_of es) (free_of es)) a ≡ free_node (cond t (Some (note e.vnode e.usage)) (note_at es a))
     go true p true q i = rw (q, p)
     go true p false q i = rw q i
     go false p true q i = rw p (i ∙ ap free_node (none_below e.range.end es a o.1.1 ((held e.range a).0 q).1))
@@ -102,7 +99,7 @@ both_fail false s i = ((λ h. i.0 h.1), (λ h. (refl, i.1 h)))
 
 -- an entry that is not free does not fit, and a free one fits as its range does: no entry fits exactly where no free range does, and a
 -- search finds the same
-module _ (asked : OptionU32) (len : ℕ) (alignment : OptionU64) where
+module _ (asked : Option ℕ) (len : ℕ) (alignment : Option ℕ) where
   pub fits-free : (es : List AddressRange)
       → All (λ e. fits_in asked len alignment e ≡ false) es ↔ (some_entry_fits asked len alignment (free_of es) ≡ false)
   fits-free [] = ((λ h. refl), (λ h. tt))

@@ -1,8 +1,8 @@
 -- The free entries of the table that a build gives are the RAM list from which the used range and the pool ranges are cut.
-use Rattle.std.specs.Prelude.{ℕ, zero, suc, ◌+◌, ◌-◌, ◌≤◌, ◌<◌, ◌≡◌, refl, Bool, true, false, cond, List, [], ◌∷◌, ◌⊎◌, ltb, eqb}
+use Rattle.std.specs.Prelude.{ℕ, zero, suc, ◌+◌, ◌-◌, ◌≤◌, ◌<◌, ◌≡◌, refl, Bool, true, false, cond, List, [], ◌∷◌, ◌⊎◌, ltb, eqb, Option, Some, None}
 use Rattle.std.proofs.Common.{ap, sym, ◌∙◌, inl, inr, ⊎_elim, lt-ltb}
-use Rattle.std.proofs.Math.Option.{Option, none, some, none-ne-some}
 use Rattle.std.proofs.Math.Decide.{dec_lt}
+use Rattle.std.proofs.lemmas.Option.{none-some}
 use native.Mathlib.Omega.{arith}
 use Rattle.memory_range.specs.declared.range.MemoryRange.{MemoryRange}
 use Rattle.memory_range.specs.declared.range.TaggedRange.{TaggedRange}
@@ -92,11 +92,11 @@ usage-not-free n =
     (either-used (eqb n 8) _ _ refl
     (either-used (eqb n 9) _ _ refl refl))))))))
 
-free_noted : (u v : Option ℕ) → free_node (note_of u v) ≡ cond (ltb 0 (counted v)) none u
-free_noted none none = refl
-free_noted none (some t) = refl
-free_noted (some n) none = refl
-free_noted (some n) (some t) = rw (usage-not-free t)
+free_noted : (u v : Option ℕ) → free_node (note_of u v) ≡ cond (ltb 0 (counted v)) None u
+free_noted None None = refl
+free_noted None (Some t) = refl
+free_noted (Some n) None = refl
+free_noted (Some n) (Some t) = rw (usage-not-free t)
 
 -- a boundary of the RAM at a byte of the RAM is a start: a range that ends there is followed by one that starts there
 first_starts : (c : ℕ) (xs : List TaggedRange) → Ordered c (ranges_in xs) → 0 < holders (ranges_in xs) c → Starts xs c
@@ -136,9 +136,9 @@ all-at : (P : MemoryRange → Type 0) (es : List AddressRange) → All P (ranges
 all-at P [] h = tt
 all-at P (e ∷ es) h = (h.0, all-at P es h.1)
 
-kept : (k : ℕ) (u : Option ℕ) (n : ℕ) → cond (ltb 0 k) none u ≡ some n → (u ≡ some n) × (k ≡ 0)
+kept : (k : ℕ) (u : Option ℕ) (n : ℕ) → cond (ltb 0 k) None u ≡ Some n → (u ≡ Some n) × (k ≡ 0)
 kept zero u n e = (e, refl)
-kept (suc k) u n e = absurd (none-ne-some n (rw (lt-ltb 0 (suc k) (omega arith)) at e))
+kept (suc k) u n e = absurd (none-some n (rw (lt-ltb 0 (suc k) (omega arith)) at e))
 
 -- the table of a RAM list and of what is used of it, both in order
 module _ (ram used : List TaggedRange) (or : Ordered 0 (ranges_in ram)) (ou : Ordered 0 (ranges_in used)) where
@@ -149,17 +149,17 @@ module _ (ram used : List TaggedRange) (or : Ordered 0 (ranges_in ram)) (ou : Or
   in_order = free-ordered 0 (table_of ram used) (table-ordered ram used or ou)
 
   -- of a byte its node is said exactly where it is not used
-  table-free : (a : ℕ) → tag_at free a ≡ cond (ltb 0 (holders (ranges_in used) a)) none (tag_at ram a)
+  table-free : (a : ℕ) → tag_at free a ≡ cond (ltb 0 (holders (ranges_in used) a)) None (tag_at ram a)
   table-free a =
       free_tag 0 (table_of ram used) a (table-ordered ram used or ou) ∙ ap free_node (table_says ram used or ou a)
       ∙ free_noted (tag_at ram a) (tag_at used a)
-      ∙ ap (λ (k : ℕ). cond (ltb 0 k) none (tag_at ram a)) (sym (tag-holders used a (ordered-once 0 (ranges_in used) ou a)))
+      ∙ ap (λ (k : ℕ). cond (ltb 0 k) None (tag_at ram a)) (sym (tag-holders used a (ordered-once 0 (ranges_in used) ou a)))
 
   -- a byte of the RAM that is not used
   abbrev Open : ℕ → Type 0
   Open a = (0 < holders (ranges_in ram) a) × (holders (ranges_in used) a ≡ 0)
 
-  said_open : (a n : ℕ) → tag_at free a ≡ some n → Open a
+  said_open : (a n : ℕ) → tag_at free a ≡ Some n → Open a
   said_open a n e =
       let k = kept (holders (ranges_in used) a) (tag_at ram a) n (sym (table-free a) ∙ e) in
       (rw (tag-holders ram a (ordered-once 0 (ranges_in ram) or a), k.0) (omega arith), k.1)

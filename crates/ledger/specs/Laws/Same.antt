@@ -1,9 +1,9 @@
 -- Two lists of tagged ranges that say the same of each byte are the same list, where it is known where their ranges meet: given addresses, seams,
 -- such that neighbours that touch do so at a seam, and no seam lies inside a range.
-use Rattle.std.specs.Prelude.{ℕ, ◌≤◌, ◌<◌, ◌≡◌, refl, List, [], ◌∷◌}
+use Rattle.std.specs.Prelude.{ℕ, ◌≤◌, ◌<◌, ◌≡◌, refl, List, [], ◌∷◌, Some, None}
 use Rattle.std.proofs.Common.{sym, ap₂, ◌∙◌, arith}
-use Rattle.std.proofs.Math.Option.{none, some, some-injective, none-ne-some}
 use Rattle.std.proofs.Math.Decide.{dec_le, dec_lt}
+use Rattle.std.proofs.lemmas.Option.{none-some, same_Some}
 use Rattle.memory_range.specs.declared.range.TaggedRange.{TaggedRange}
 use Rattle.memory_range.specs.Bytes.{Ordered, All}
 use Rattle.memory_range.specs.List.{ranges_in}
@@ -13,24 +13,24 @@ use Rattle.memory_claims.specs.Claim.{tag_at}
 use Rattle.memory_claims.specs.Laws.Notes.{not_below, not_above}
 
 -- a list in order says nothing of a byte below it, and so something only of bytes from its first start on
-pub tag_below : (b : ℕ) (xs : List TaggedRange) (a : ℕ) → Ordered b (ranges_in xs) → a < b → tag_at xs a ≡ none
+pub tag_below : (b : ℕ) (xs : List TaggedRange) (a : ℕ) → Ordered b (ranges_in xs) → a < b → tag_at xs a ≡ None
 tag_below b [] a o h = refl
 tag_below b (x ∷ xs) a o h = rw (not_below x.range a (omega arith)) (tag_below x.range.end xs a o.1.1 (omega arith))
 
-pub said_from : (b : ℕ) (xs : List TaggedRange) (a n : ℕ) → Ordered b (ranges_in xs) → tag_at xs a ≡ some n → b ≤ a
+pub said_from : (b : ℕ) (xs : List TaggedRange) (a n : ℕ) → Ordered b (ranges_in xs) → tag_at xs a ≡ Some n → b ≤ a
 said_from b xs a n o e = go (dec_le b a)
   where
     go : Dec (b ≤ a) → b ≤ a
     go (yes h) = h
-    go (no h) = absurd (none-ne-some n (sym (tag_below b xs a o (omega arith)) ∙ e))
+    go (no h) = absurd (none-some n (sym (tag_below b xs a o (omega arith)) ∙ e))
 
 -- a range has its tag said of each of its bytes
-pub said-first : (x : TaggedRange) (xs : List TaggedRange) (a : ℕ) → x.range.start ≤ a → a < x.range.end → tag_at (x ∷ xs) a ≡ some x.tag
+pub said-first : (x : TaggedRange) (xs : List TaggedRange) (a : ℕ) → x.range.start ≤ a → a < x.range.end → tag_at (x ∷ xs) a ≡ Some x.tag
 said-first x xs a l h = rw ((held x.range a).1 (l, h))
 
 -- a range x with a byte, each of whose bytes the list xs says its tag of
 abbrev pub Said : List TaggedRange → TaggedRange → Type 0
-Said xs x = (x.range.start < x.range.end) × ((a : ℕ) → x.range.start ≤ a → a < x.range.end → tag_at xs a ≡ some x.tag)
+Said xs x = (x.range.start < x.range.end) × ((a : ℕ) → x.range.start ≤ a → a < x.range.end → tag_at xs a ≡ Some x.tag)
 
 pub all_said : (b : ℕ) (xs : List TaggedRange) → Ordered b (ranges_in xs) → All (Said xs) xs
 all_said b [] o = tt
@@ -87,8 +87,8 @@ module _ (Seam : ℕ → Type 0) where
     ends_last joint whole s = go (dec_le y.range.end x.range.end)
       where
         next : (zs : List TaggedRange) → Ordered x.range.end (ranges_in zs) → Behind x.range.end zs
-            → tag_at zs x.range.end ≡ some y.tag → Seam x.range.end
-        next [] o j t = absurd (none-ne-some y.tag t)
+            → tag_at zs x.range.end ≡ Some y.tag → Seam x.range.end
+        next [] o j t = cc
         next (z ∷ zs) o j t =
             let from = said_from z.range.start (z ∷ zs) x.range.end y.tag (omega arith, o.1) t in
             j (omega arith)
@@ -105,10 +105,10 @@ module _ (Seam : ℕ → Type 0) where
   same-list b [] [] ox oy jx jy wx wy same = refl
   same-list b [] (y ∷ ys) ox oy jx jy wx wy same =
       let s = y.range.start in
-      absurd (none-ne-some y.tag (same s ∙ said-first y ys s (omega arith) oy.1.0))
+      absurd (none-some y.tag (same s ∙ said-first y ys s (omega arith) oy.1.0))
   same-list b (x ∷ xs) [] ox oy jx jy wx wy same =
       let s = x.range.start in
-      absurd (none-ne-some x.tag (sym (same s) ∙ said-first x xs s (omega arith) ox.1.0))
+      absurd (none-some x.tag (sym (same s) ∙ said-first x xs s (omega arith) ox.1.0))
   same-list b (x ∷ xs) (y ∷ ys) ox oy jx jy wx wy same =
       ap₂ ◌∷◌ (alike x y starts ends tags)
       (same-list x.range.end xs ys ox.1.1 (rw ends oy.1.1) jx.1 jy.1 wx.1 wy.1 behind)
@@ -136,7 +136,7 @@ module _ (Seam : ℕ → Type 0) where
       tags : x.tag ≡ y.tag
       tags =
           let s = x.range.start in
-          some-injective x.tag y.tag
+          same_Some x.tag y.tag
           (sym (said-first x xs s (omega arith) ox.1.0) ∙ same s ∙ said-first y ys s (omega (arith, starts)) (omega (arith, ends, ox.1.0)))
 
       behind : (a : ℕ) → tag_at xs a ≡ tag_at ys a

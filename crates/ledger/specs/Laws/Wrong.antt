@@ -1,15 +1,13 @@
 -- The claim says something: it is refuted for each of the wrong planners.
-use Rattle.std.specs.Prelude.{◌≡◌, refl, Bool, true, false, List, [], ◌∷◌}
+use Rattle.std.specs.Prelude.{◌≡◌, refl, Bool, true, false, List, [], ◌∷◌, Option, Some, None}
 use Rattle.std.proofs.Common.{ap, true≢false}
-use Rattle.std.proofs.Math.Option.{Option, none, some, none-ne-some}
+use Rattle.std.proofs.lemmas.Option.{none-some}
 use Rattle.memory_range.specs.declared.range.TaggedRange.{TaggedRange}
 use Rattle.memory_range.specs.List.{tagged}
 use Rattle.memory_range.specs.Range.{range, overlap_ranges}
 use Rattle.range_lists.specs.Walk.{walk_from}
 use Rattle.host_params.specs.declared.AllocationPolicy.TheVariants.{LowMemory}
 use Rattle.host_params.specs.declared.AllocationType.TheVariants.{SidecarNode}
-use Rattle.host_params.specs.declared.OptionU32.TheVariants as node
-use Rattle.host_params.specs.declared.OptionU64.TheVariants as number
 use Rattle.address_space.specs.declared.usage.AddressUsage.{AddressUsage}
 use Rattle.address_space.specs.declared.usage.AddressUsage.TheVariants.{Free, Used, Reserved}
 use Rattle.address_space.specs.declared.usage.ReservedMemoryType.TheVariants.{PersistedStateHeader, PersistedStatePayload}
@@ -43,7 +41,7 @@ built_state free =
           entry (range 2113536 2162688) 0 Free ∷
           free;
       flag = false;
-      first = none;
+      first = None;
     }
 
 -- one node: RAM from 200000 to 210000
@@ -61,11 +59,11 @@ abbrev pub two : TableState
 two = built_state (entry (range 3145728 3149824) 1 Free ∷ [])
 
 -- each wrong planner comes from these builds to these states
-pub one_builds : (ways : Ways) → (planner_of ways).build singles ram [] [] ≡ some one
+pub one_builds : (ways : Ways) → (planner_of ways).build singles ram [] [] ≡ Some one
 unfolding build rows_refusal singles_valid used_refusal used_of filled table_of usage_of walk_from overlap_ranges
 one_builds ways = refl
 
-pub two_builds : (ways : Ways) → (planner_of ways).build singles two_ram [] [] ≡ some two
+pub two_builds : (ways : Ways) → (planner_of ways).build singles two_ram [] [] ≡ Some two
 unfolding build rows_refusal singles_valid used_refusal used_of filled table_of usage_of walk_from overlap_ranges
 two_builds ways = refl
 
@@ -76,12 +74,12 @@ is_reserved Used = false
 is_reserved (Reserved t) = true
 
 abbrev said_reserved : Option Note → Bool
-said_reserved none = false
-said_reserved (some n) = is_reserved n.usage
+said_reserved None = false
+said_reserved (Some n) = is_reserved n.usage
 
 -- a request for a page
 abbrev pub page : Call
-page = request (record { asked = node.None; len = 4096; type = SidecarNode; policy = LowMemory; alignment = number.None; bits = tt })
+page = request (record { asked = None; len = 4096; type = SidecarNode; policy = LowMemory; alignment = None; bits = tt })
 
 -- a free range fits, and the answer is no-fit
 pub unlooked_refuted : Claim (planner_of unlooked) singles ram [] [] one (page ∷ []) → ⊥
@@ -90,11 +88,11 @@ unlooked_refuted c = true≢false ((c.calls_hold.0.searches refl).0 refl)
 -- the second page is the first, which is free no more
 pub left-free_refuted : Claim (planner_of left_free) singles ram [] [] one (page ∷ page ∷ []) → ⊥
 unfolding requested allocated
-left-free_refuted c = none-ne-some _ (c.calls_hold.1.0.were-free.0 2113536 refl)
+left-free_refuted c = none-some _ (c.calls_hold.1.0.were-free.0 2113536 refl)
 
 pub again_refuted : Claim (planner_of again) singles ram [] [] one (page ∷ page ∷ []) → ⊥
 unfolding requested allocated
-again_refuted c = none-ne-some _ (c.calls_hold.1.0.were-free.0 2113536 refl)
+again_refuted c = none-some _ (c.calls_hold.1.0.were-free.0 2113536 refl)
 
 -- the pool is refused, and 4 pages of node 0 are free no more
 pub pieces-kept_refuted : Claim (planner_of pieces_kept) singles two_ram [] [] two (pool 8 true ∷ []) → ⊥
@@ -108,4 +106,4 @@ neighbour_refuted c = true≢false (ap said_reserved (c.calls_hold.0.others-kept
 
 -- a map is accepted, and it selects nothing
 pub refusing_refuted : Demand3 refusing → ⊥
-refusing_refuted d = none-ne-some _ (d.selects _ _ _ _ _ _ _ one-accepted)
+refusing_refuted d = none-some _ (d.selects _ _ _ _ _ _ _ one-accepted)

@@ -1,8 +1,7 @@
 -- No field of a record's line holds a tab or a newline.
-use Rattle.std.specs.Prelude.{ℕ, ◌+◌, ◌*◌, ◌^◌, ◌<◌, ◌≡◌, refl, Bool, true, false, cond, ◌&&◌, not, List, [], ◌∷◌, ◌++◌, eqb, length}
+use Rattle.std.specs.Prelude.{ℕ, ◌+◌, ◌*◌, ◌^◌, ◌<◌, ◌≡◌, refl, Bool, true, false, cond, ◌&&◌, not, List, [], ◌∷◌, ◌++◌, eqb, length, Option, Some, None}
 use Rattle.std.proofs.Common.{ap, sym, ◌∙◌, arith, eqb-true}
 use Rattle.std.proofs.Math.Bool.{and-eq-true_iff}
-use Rattle.std.proofs.Math.Option.{Option, none, some, none-ne-some}
 use Rattle.std.proofs.lemmas.Bool.{not-true}
 use Rattle.memory_range.specs.Bytes.{All}
 use Rattle.memory_range.specs.declared.range.MemoryRange.{MemoryRange}
@@ -17,10 +16,6 @@ use Rattle.host_params.specs.declared.MemoryAllocationMode.{MemoryAllocationMode
 use Rattle.host_params.specs.declared.MemoryAllocationMode.TheVariants.{Host, Vtl2}
 use Rattle.host_params.specs.declared.MemoryMapEntryType.{MemoryMapEntryType}
 use Rattle.host_params.specs.declared.MemoryMapEntryType.TheVariants.{Vtl2Protectable, Memory}
-use Rattle.host_params.specs.declared.OptionU32.{OptionU32}
-use Rattle.host_params.specs.declared.OptionU32.TheVariants as u32
-use Rattle.host_params.specs.declared.OptionU64.{OptionU64}
-use Rattle.host_params.specs.declared.OptionU64.TheVariants as u64
 use Rattle.host_params.specs.declared.Vtl2GpaPoolConfig.{Vtl2GpaPoolConfig}
 use Rattle.host_params.specs.declared.Vtl2GpaPoolConfig.TheVariants.{Heuristics, Off, Pages}
 use Rattle.host_params.specs.declared.Vtl2GpaPoolLookupTable.TheVariants.{Release, Debug}
@@ -34,6 +29,7 @@ use Rattle.plan_output.specs.Number.{hex_of}
 use Rattle.plan_output.specs.Laws.Number.{read-hex}
 use Rattle.line_claims.specs.Spelling.{mode_word, isolation_word, entry_type_word, policy_word, kind_word, split_word, config_word, pages_for, optional_for, optional_node_for, fields_for, line_for}
 use Rattle.line_claims.specs.Spelling.{SizedOption, SizedNode, SizedConfig, SizedRange, Sized}
+use Rattle.std.proofs.lemmas.Option.{none-some}
 
 record Plain (f : List ℕ) : Type 0 where
   no-tab : Without tab f
@@ -56,21 +52,21 @@ word_plain w h =
     record { no-tab = without-test tab w both.0; no-newline = without-test newline w both.1 }
 
 -- of a number: a byte that is no digit is in no number
-spelled-without : (c : ℕ) → digit_of c ≡ none → (bs : List ℕ) (v n : ℕ) → spelled_from v bs ≡ some n → Without c bs
+spelled-without : (c : ℕ) → digit_of c ≡ None → (bs : List ℕ) (v n : ℕ) → spelled_from v bs ≡ Some n → Without c bs
 spelled-without c z [] v n e = tt
 spelled-without c z (b ∷ bs) v n e = go (digit_of b) (eqb b c) refl refl (λ w. spelled-without c z bs w n)
   where
-    go : (o : Option ℕ) (t : Bool) → digit_of b ≡ o → eqb b c ≡ t → ((w : ℕ) → spelled_from w bs ≡ some n → Without c bs) → Without c (b ∷ bs)
-    go none t d q i = absurd (none-ne-some n (sym (spelled_none v b bs d) ∙ e))
-    go (some d) true s q i = absurd (none-ne-some d (sym z ∙ ap digit_of (sym (eqb-true b c q)) ∙ s))
-    go (some d) false s q i = (q, i (v * 16 + d) (sym (spelled_digit v b d bs s) ∙ e))
+    go : (o : Option ℕ) (t : Bool) → digit_of b ≡ o → eqb b c ≡ t → ((w : ℕ) → spelled_from w bs ≡ Some n → Without c bs) → Without c (b ∷ bs)
+    go None t d q i = absurd (none-some n (sym (spelled_none v b bs d) ∙ e))
+    go (Some d) true s q i = absurd (none-some d (sym z ∙ ap digit_of (sym (eqb-true b c q)) ∙ s))
+    go (Some d) false s q i = (q, i (v * 16 + d) (sym (spelled_digit v b d bs s) ∙ e))
 
-number-without : (c : ℕ) → digit_of c ≡ none → (bs : List ℕ) (n : ℕ) → number_of bs ≡ some n → Without c bs
+number-without : (c : ℕ) → digit_of c ≡ None → (bs : List ℕ) (n : ℕ) → number_of bs ≡ Some n → Without c bs
 number-without c z bs n e = go (between 1 16 (length bs) && not (zero_in_front bs)) e
   where
-    go : (t : Bool) → cond t (spelled_from 0 bs) none ≡ some n → Without c bs
+    go : (t : Bool) → cond t (spelled_from 0 bs) None ≡ Some n → Without c bs
     go true h = spelled-without c z bs 0 n h
-    go false h = absurd (none-ne-some n h)
+    go false h = absurd (none-some n h)
 
 hex_plain : (n : ℕ) → n < 2 ^ 64 → Plain (hex_of n)
 hex_plain n h = record {
@@ -106,13 +102,13 @@ split_plain : (v : Bool) → Plain (split_word v)
 split_plain true = word_plain _ refl
 split_plain false = word_plain _ refl
 
-optional_plain : (v : OptionU64) → SizedOption v → Plain (optional_for v)
-optional_plain (u64.Some n) h = hex_plain n h
-optional_plain u64.None h = word_plain _ refl
+optional_plain : (v : (Option ℕ)) → SizedOption v → Plain (optional_for v)
+optional_plain (Some n) h = hex_plain n h
+optional_plain None h = word_plain _ refl
 
-optional-node_plain : (v : OptionU32) → SizedNode v → Plain (optional_node_for v)
-optional-node_plain (u32.Some n) h = hex_plain n (omega arith)
-optional-node_plain u32.None h = word_plain _ refl
+optional-node_plain : (v : (Option ℕ)) → SizedNode v → Plain (optional_node_for v)
+optional-node_plain (Some n) h = hex_plain n (omega arith)
+optional-node_plain None h = word_plain _ refl
 
 pool_plain : (v : Vtl2GpaPoolConfig) → Plain (config_word v)
 pool_plain (Heuristics Release) = word_plain _ refl

@@ -1,7 +1,6 @@
 -- The line of a record is the one that spells it: what is read from it is the record, and no other line is read as it.
-use Rattle.std.specs.Prelude.{ℕ, ◌≡◌, refl, Bool, true, false, cond, List, [], ◌∷◌, eqb, length}
+use Rattle.std.specs.Prelude.{ℕ, ◌≡◌, refl, Bool, true, false, cond, List, [], ◌∷◌, eqb, length, Option, Some, None}
 use Rattle.std.proofs.Common.{ap, ap₂, sym, ◌∙◌, arith, eqb-true}
-use Rattle.std.proofs.Math.Option.{Option, none, some, some-injective, none-ne-some}
 use Rattle.memory_range.specs.Bytes.{All}
 use Rattle.memory_range.specs.declared.range.MemoryRange.{MemoryRange}
 use Rattle.plan_fields.specs.Cut.{tab, split_on, join_with}
@@ -20,12 +19,13 @@ use Rattle.line_claims.proofs.Laws.Plain.{fields_apart}
 use Rattle.line_claims.proofs.Laws.Field.{mode-read, mode_spelled, isolation-read, isolation_spelled, entry_type-read, entry_type_spelled}
 use Rattle.line_claims.proofs.Laws.Field.{policy-read, policy_spelled, kind-read, kind_spelled, split-read, split_spelled, number_spelled}
 use Rattle.line_claims.proofs.Laws.Field.{optional-read, optional_spelled, node-read, node_spelled, optional-node-read, optional-node_spelled, config-read, config_spelled}
+use Rattle.std.proofs.lemmas.Option.{none-some, same_Some}
 
 -- the fields of a record are read as the record
-range-read : (r : MemoryRange) → SizedRange r → range_of (hex_of r.start ∷ hex_of r.end ∷ []) ≡ some r
+range-read : (r : MemoryRange) → SizedRange r → range_of (hex_of r.start ∷ hex_of r.end ∷ []) ≡ Some r
 range-read r h = rw (read-hex r.start h.0, read-hex r.end h.1)
 
-fields_read : (r : Record) → Sized r → fields_record (fields_for r) ≡ some r
+fields_read : (r : Record) → Sized r → fields_record (fields_for r) ≡ Some r
 fields_read (Shape s) h = rw (mode-read s.mode, isolation-read s.isolation, optional-read s.memory_size h)
 fields_read (File r) h = rw (range-read r h)
 fields_read (Mem e) h =
@@ -51,13 +51,13 @@ fields_read (Get g) h =
     )
 
 -- a value made of n fields is made of so many
-having-some : {A : Type 0} (n : ℕ) (fields : List (List ℕ)) (v : Option A) {y : A} → having n fields v ≡ some y
-    → (v ≡ some y) × (length fields ≡ n)
+having-some : {A : Type 0} (n : ℕ) (fields : List (List ℕ)) (v : Option A) {y : A} → having n fields v ≡ Some y
+    → (v ≡ Some y) × (length fields ≡ n)
 having-some {A} n fields v {y} e = go (eqb (length fields) n) refl e
   where
-    go : (t : Bool) → eqb (length fields) n ≡ t → cond t v none ≡ some y → (v ≡ some y) × (length fields ≡ n)
+    go : (t : Bool) → eqb (length fields) n ≡ t → cond t v None ≡ Some y → (v ≡ Some y) × (length fields ≡ n)
     go true q h = (h, eqb-true (length fields) n q)
-    go false q h = absurd (none-ne-some y h)
+    go false q h = absurd (none-some y h)
 
 -- so many fields, one by one
 two : (fs : List (List ℕ)) → length fs ≡ 2 → fs ≡ field 0 fs ∷ field 1 fs ∷ []
@@ -87,40 +87,40 @@ abbrev Spelled : List ℕ → List (List ℕ) → Record → Type 0
 Spelled w fs r = (w ∷ fs ≡ fields_for r) × Sized r
 
 abbrev FormSpelled : Form → Type 0
-FormSpelled form = (fs : List (List ℕ)) (r : Record) → makes form fs ≡ some r → Spelled (word_in form) fs r
+FormSpelled form = (fs : List (List ℕ)) (r : Record) → makes form fs ≡ Some r → Spelled (word_in form) fs r
 
-range_spelled : (fs : List (List ℕ)) (r : MemoryRange) → range_of fs ≡ some r → (fs ≡ hex_of r.start ∷ hex_of r.end ∷ []) × SizedRange r
+range_spelled : (fs : List (List ℕ)) (r : MemoryRange) → range_of fs ≡ Some r → (fs ≡ hex_of r.start ∷ hex_of r.end ∷ []) × SizedRange r
 range_spelled fs r e =
     let all = having-some 2 fs _ e in
     let a = after-some (number_of (field 0 fs)) _ all.0 in
     let b = after-some (number_of (field 1 fs)) _ a.2 in
     let start = number_spelled (field 0 fs) a.0 a.1 in
     let end = number_spelled (field 1 fs) b.0 b.1 in
-    rw (← some-injective _ r b.2) (two fs all.1 ∙ cons start.0 (cons end.0 refl), (start.1, end.1))
+    rw (← same_Some _ r b.2) (two fs all.1 ∙ cons start.0 (cons end.0 refl), (start.1, end.1))
 
 ranged_spelled : (w : List ℕ) (make : MemoryRange → Record)
     → ((x : MemoryRange) → SizedRange x → Spelled w (hex_of x.start ∷ hex_of x.end ∷ []) (make x))
-    → (fs : List (List ℕ)) (r : Record) → after (range_of fs) (λ x. some (make x)) ≡ some r → Spelled w fs r
+    → (fs : List (List ℕ)) (r : Record) → after (range_of fs) (λ x. Some (make x)) ≡ Some r → Spelled w fs r
 ranged_spelled w make s fs r e =
     let a = after-some (range_of fs) _ e in
     let x = range_spelled fs a.0 a.1 in
     let made = s a.0 x.1 in
-    rw (← some-injective _ r a.2) (cons refl x.0 ∙ made.0, made.1)
+    rw (← same_Some _ r a.2) (cons refl x.0 ∙ made.0, made.1)
 
-shape_spelled : (fs : List (List ℕ)) (r : Record) → shape_of fs ≡ some r → Spelled (ascii "shape") fs r
+shape_spelled : (fs : List (List ℕ)) (r : Record) → shape_of fs ≡ Some r → Spelled (ascii "shape") fs r
 shape_spelled fs r e =
     let all = having-some 3 fs _ e in
     let a = after-some (mode_of (field 0 fs)) _ all.0 in
     let b = after-some (isolation_of (field 1 fs)) _ a.2 in
     let c = after-some (optional_of (field 2 fs)) _ b.2 in
     let size = optional_spelled (field 2 fs) c.0 c.1 in
-    rw (← some-injective _ r c.2) (
+    rw (← same_Some _ r c.2) (
       cons refl (three fs all.1
           ∙ cons (mode_spelled (field 0 fs) a.0 a.1) (cons (isolation_spelled (field 1 fs) b.0 b.1) (cons size.0 refl))),
       size.1,
     )
 
-mem_spelled : (fs : List (List ℕ)) (r : Record) → mem_of fs ≡ some r → Spelled (ascii "mem") fs r
+mem_spelled : (fs : List (List ℕ)) (r : Record) → mem_of fs ≡ Some r → Spelled (ascii "mem") fs r
 mem_spelled fs r e =
     let all = having-some 4 fs _ e in
     let a = after-some (number_of (field 0 fs)) _ all.0 in
@@ -130,13 +130,13 @@ mem_spelled fs r e =
     let start = number_spelled (field 0 fs) a.0 a.1 in
     let end = number_spelled (field 1 fs) b.0 b.1 in
     let node = node_spelled (field 2 fs) c.0 c.1 in
-    rw (← some-injective _ r d.2) (
+    rw (← same_Some _ r d.2) (
       cons refl (four fs all.1
           ∙ cons start.0 (cons end.0 (cons node.0 (cons (entry_type_spelled (field 3 fs) d.0 d.1) refl)))),
       ((start.1, end.1), node.1),
     )
 
-pool_spelled : (fs : List (List ℕ)) (r : Record) → pool_of fs ≡ some r → Spelled (ascii "pool") fs r
+pool_spelled : (fs : List (List ℕ)) (r : Record) → pool_of fs ≡ Some r → Spelled (ascii "pool") fs r
 pool_spelled fs r e =
     let all = having-some 5 fs _ e in
     let a = after-some (config_of (field 0 fs) (field 1 fs)) _ all.0 in
@@ -146,13 +146,13 @@ pool_spelled fs r e =
     let config = config_spelled (field 0 fs) (field 1 fs) a.0 a.1 in
     let host = optional_spelled (field 2 fs) b.0 b.1 in
     let processors = number_spelled (field 3 fs) c.0 c.1 in
-    rw (← some-injective _ r d.2) (
+    rw (← same_Some _ r d.2) (
       cons refl (five fs all.1
           ∙ cons config.0 (cons config.1 (cons host.0 (cons processors.0 (cons (split_spelled (field 4 fs) d.0 d.1) refl))))),
       (config.2, host.1, processors.1),
     )
 
-get_spelled : (fs : List (List ℕ)) (r : Record) → get_of fs ≡ some r → Spelled (ascii "get") fs r
+get_spelled : (fs : List (List ℕ)) (r : Record) → get_of fs ≡ Some r → Spelled (ascii "get") fs r
 get_spelled fs r e =
     let all = having-some 5 fs _ e in
     let a = after-some (optional_node_of (field 0 fs)) _ all.0 in
@@ -163,7 +163,7 @@ get_spelled fs r e =
     let node = optional-node_spelled (field 0 fs) a.0 a.1 in
     let len = number_spelled (field 1 fs) b.0 b.1 in
     let align = optional_spelled (field 4 fs) l.0 l.1 in
-    rw (← some-injective _ r l.2) (
+    rw (← same_Some _ r l.2) (
       cons refl (five fs all.1
           ∙ cons node.0 (cons len.0 (cons (policy_spelled (field 2 fs) c.0 c.1) (cons (kind_spelled (field 3 fs) d.0 d.1) (cons align.0 refl))))),
       (node.1, len.1, align.1),
@@ -208,29 +208,29 @@ forms_spelled = (
   ),
 )
 
-record_spelled : (l : List Form) (w : List ℕ) (fs : List (List ℕ)) (r : Record) → All FormSpelled l → record_by l w fs ≡ some r → Spelled w fs r
-record_spelled [] w fs r m e = absurd (none-ne-some r e)
+record_spelled : (l : List Form) (w : List ℕ) (fs : List (List ℕ)) (r : Record) → All FormSpelled l → record_by l w fs ≡ Some r → Spelled w fs r
+record_spelled [] w fs r m e = absurd (none-some r e)
 record_spelled (form ∷ rest) w fs r m e = go (same_bytes w (word_in form)) refl e (record_spelled rest w fs r m.1)
   where
-    go : (t : Bool) → same_bytes w (word_in form) ≡ t → cond t (makes form fs) (record_by rest w fs) ≡ some r
-        → (record_by rest w fs ≡ some r → Spelled w fs r) → Spelled w fs r
+    go : (t : Bool) → same_bytes w (word_in form) ≡ t → cond t (makes form fs) (record_by rest w fs) ≡ Some r
+        → (record_by rest w fs ≡ Some r → Spelled w fs r) → Spelled w fs r
     go true q h i = rw (same_eq w (word_in form) q) (m.0 fs r h)
     go false q h i = i h
 
-fields_spelled : (ps : List (List ℕ)) (r : Record) → fields_record ps ≡ some r → (ps ≡ fields_for r) × Sized r
-fields_spelled [] r e = absurd (none-ne-some r e)
+fields_spelled : (ps : List (List ℕ)) (r : Record) → fields_record ps ≡ Some r → (ps ≡ fields_for r) × Sized r
+fields_spelled [] r e = absurd (none-some r e)
 fields_spelled (w ∷ fs) r e = record_spelled forms w fs r forms_spelled e
 
 -- a line that is read as a record is the record's
-pub line_spelled : (line : List ℕ) (r : Record) → line_of line ≡ some r → (line ≡ line_for r) × Sized r
+pub line_spelled : (line : List ℕ) (r : Record) → line_of line ≡ Some r → (line ≡ line_for r) × Sized r
 line_spelled line r e =
     let s = fields_spelled (split_on tab line) r e in
     (sym (join_split tab line) ∙ ap (join_with tab) s.0, s.1)
 
 -- and that line is read as the record
-split_fields : (fs : List (List ℕ)) (r : Record) → AllWithout tab fs → fields_record fs ≡ some r → line_of (join_with tab fs) ≡ some r
-split_fields [] r a e = absurd (none-ne-some r e)
+split_fields : (fs : List (List ℕ)) (r : Record) → AllWithout tab fs → fields_record fs ≡ Some r → line_of (join_with tab fs) ≡ Some r
+split_fields [] r a e = absurd (none-some r e)
 split_fields (w ∷ fs) r a e = ap fields_record (split_join tab w fs a) ∙ e
 
-pub line_read : (r : Record) → Sized r → line_of (line_for r) ≡ some r
+pub line_read : (r : Record) → Sized r → line_of (line_for r) ≡ Some r
 line_read r h = split_fields (fields_for r) r (fields_apart r h) (fields_read r h)

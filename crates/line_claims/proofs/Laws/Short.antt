@@ -1,7 +1,6 @@
 -- A line that has a record has at most 63 bytes.
-use Rattle.std.specs.Prelude.{ℕ, ◌+◌, ◌^◌, ◌≤◌, ◌<◌, ◌≡◌, Bool, true, false, List, [], ◌∷◌, length}
+use Rattle.std.specs.Prelude.{ℕ, ◌+◌, ◌^◌, ◌≤◌, ◌<◌, ◌≡◌, Bool, true, false, List, [], ◌∷◌, length, Option, Some, None}
 use Rattle.std.proofs.Common.{arith, length-append}
-use Rattle.std.proofs.Math.Option.{some}
 use Rattle.memory_range.specs.declared.range.MemoryRange.{MemoryRange}
 use Rattle.host_params.specs.declared.AllocationPolicy.{AllocationPolicy}
 use Rattle.host_params.specs.declared.AllocationPolicy.TheVariants.{LowMemory, HighMemory}
@@ -14,10 +13,6 @@ use Rattle.host_params.specs.declared.MemoryAllocationMode.{MemoryAllocationMode
 use Rattle.host_params.specs.declared.MemoryAllocationMode.TheVariants.{Host, Vtl2}
 use Rattle.host_params.specs.declared.MemoryMapEntryType.{MemoryMapEntryType}
 use Rattle.host_params.specs.declared.MemoryMapEntryType.TheVariants.{Vtl2Protectable, Memory}
-use Rattle.host_params.specs.declared.OptionU32.{OptionU32}
-use Rattle.host_params.specs.declared.OptionU32.TheVariants as u32
-use Rattle.host_params.specs.declared.OptionU64.{OptionU64}
-use Rattle.host_params.specs.declared.OptionU64.TheVariants as u64
 use Rattle.host_params.specs.declared.Vtl2GpaPoolConfig.{Vtl2GpaPoolConfig}
 use Rattle.host_params.specs.declared.Vtl2GpaPoolConfig.TheVariants.{Heuristics, Off, Pages}
 use Rattle.host_params.specs.declared.Vtl2GpaPoolLookupTable.TheVariants.{Release, Debug}
@@ -70,13 +65,13 @@ split-short : (v : Bool) → length (split_word v) ≤ 1
 split-short true = omega arith
 split-short false = omega arith
 
-optional-short : (v : OptionU64) → SizedOption v → length (optional_for v) ≤ 16
-optional-short (u64.Some n) h = hex-short n h
-optional-short u64.None h = omega arith
+optional-short : (v : (Option ℕ)) → SizedOption v → length (optional_for v) ≤ 16
+optional-short (Some n) h = hex-short n h
+optional-short None h = omega arith
 
-optional-node-short : (v : OptionU32) → SizedNode v → length (optional_node_for v) ≤ 8
-optional-node-short (u32.Some n) h = node-short n h
-optional-node-short u32.None h = omega arith
+optional-node-short : (v : (Option ℕ)) → SizedNode v → length (optional_node_for v) ≤ 8
+optional-node-short (Some n) h = node-short n h
+optional-node-short None h = omega arith
 
 -- only the kind `pages` has more than one byte behind it
 config-short : (v : Vtl2GpaPoolConfig) → SizedConfig v → length (config_word v) + length (pages_for v) ≤ 21
@@ -119,5 +114,5 @@ record-short (Pool p) h =
 record-short (Get g) h =
     rw join-length (omega (arith, optional-node-short g.required_vnode h.0, hex-short g.len h.1, policy-short g.allocation_policy, kind-short g.allocation_type, optional-short g.alignment h.2))
 
-pub line-short : (line : List ℕ) (r : Record) → line_of line ≡ some r → length line ≤ longest_line
+pub line-short : (line : List ℕ) (r : Record) → line_of line ≡ Some r → length line ≤ longest_line
 line-short line r e = let s = line_spelled line r e in rw s.0 (record-short r s.1)

@@ -1,9 +1,8 @@
 -- How many pieces of a walk the left list holds: at most one for each of its items, and two for each item of the
 -- right list. So the used pieces and the table's entries are few enough.
-use Rattle.std.specs.Prelude.{ℕ, suc, ◌+◌, ◌*◌, ◌/◌, ◌%◌, ◌≤◌, ◌≡◌, refl, Bool, true, false, cond, List, [], ◌∷◌, ◌++◌, leb, ltb, eqb, length}
+use Rattle.std.specs.Prelude.{ℕ, suc, ◌+◌, ◌*◌, ◌/◌, ◌%◌, ◌≤◌, ◌≡◌, refl, Bool, true, false, cond, List, [], ◌∷◌, ◌++◌, leb, ltb, eqb, length, Option, Some, None}
 use Rattle.std.proofs.Common.{ap, arith, eqb-true}
 use Rattle.std.proofs.Math.Bool.{and-eq-true_iff}
-use Rattle.std.proofs.Math.Option.{Option, none, some}
 use Rattle.memory_range.specs.declared.range.MemoryRange.{MemoryRange}
 use Rattle.memory_range.specs.declared.range.TaggedRange.{TaggedRange}
 use Rattle.range_lists.specs.declared.walk.RangeWalkResult.{RangeWalkResult}
@@ -38,8 +37,8 @@ next-held true p ps = go (left_held p.result)
     go false = omega arith
 
 piece-held : (a b : ℕ) (r : Option RangeWalkResult) (ps : List WalkPiece) → held_count (piece_of a b r ++ ps) ≤ counted_if left_held r + held_count ps
-piece-held a b none ps = omega arith
-piece-held a b (some h) ps = next-held (ltb a b) _ ps
+piece-held a b None ps = omega arith
+piece-held a b (Some h) ps = next-held (ltb a b) _ ps
 
 -- an item of the left list is open only where an odd number of its boundaries is passed
 open-held : (n m i j : ℕ) → counted_if left_held (held_by (open_item n i) (open_item m j)) ≤ i % 2
@@ -48,11 +47,11 @@ open-held n m i j = go (is_open n i) refl (open_item m j)
     odd : is_open n i ≡ true → i % 2 ≡ 1
     odd e = eqb-true (i % 2) 1 ((and-eq-true_iff (eqb (i % 2) 1) (ltb (i / 2) n)).0 e).0
 
-    go : (t : Bool) → is_open n i ≡ t → (v : Option ℕ) → counted_if left_held (held_by (cond t (some (i / 2)) none) v) ≤ i % 2
-    go true e none = omega (arith, odd e)
-    go true e (some j) = omega (arith, odd e)
-    go false e none = omega arith
-    go false e (some j) = omega arith
+    go : (t : Bool) → is_open n i ≡ t → (v : Option ℕ) → counted_if left_held (held_by (cond t (Some (i / 2)) None) v) ≤ i % 2
+    go true e None = omega (arith, odd e)
+    go true e (Some j) = omega (arith, odd e)
+    go false e None = omega arith
+    go false e (Some j) = omega arith
 
 -- boundaries weighed: one of the left list is half a piece, one of the right list a whole one
 abbrev weight : List Boundary → ℕ

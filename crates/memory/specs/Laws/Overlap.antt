@@ -1,10 +1,9 @@
 -- Laws of what is reserved and what is used: ranges overlap exactly where some byte lies in two of them, the
 -- pieces of the used range are that range cut up, and with the pool ranges they are in order once sorted.
-use Rattle.std.specs.Prelude.{ℕ, ◌+◌, ◌≤◌, ◌<◌, ◌≡◌, refl, ◌↔◌, Bool, true, false, cond, not, ◌||◌, leb, ltb, length}
+use Rattle.std.specs.Prelude.{ℕ, ◌+◌, ◌≤◌, ◌<◌, ◌≡◌, refl, ◌↔◌, Bool, true, false, cond, not, ◌||◌, leb, ltb, length, Option, Some, None}
 use Rattle.std.proofs.Common.{sym, ◌∙◌, true≢false, arith, ltb-true, leb-true, length-append}
 use Rattle.std.proofs.Math.Bool.{and-eq-true_iff}
 use mathlib.Core.List.{List, [], ◌∷◌, ◌++◌}
-use Rattle.std.proofs.Math.Option.{Option, none, some}
 use Rattle.refusal.specs.Number.{reserved_overlap, reserved_outside_used, pool_ranges}
 use Rattle.refusal.specs.Rows.{refused_if}
 use Rattle.refusal.specs.Laws.Rows.{first-kept}
@@ -26,8 +25,6 @@ use Rattle.range_lists.specs.Laws.Walk.{walk-ordered}
 use Rattle.address_space.specs.declared.usage.ReservedMemoryType.{ReservedMemoryType}
 use Rattle.address_space.specs.declared.usage.ReservedMemoryType.TheVariants.{Vtl2Config, Vtl2Reserved, SidecarImage, Vtl2GpaPool, TdxPageTables, BootshimLogBuffer, PersistedStatePayload}
 use Rattle.memory.specs.declared.builder.AddressSpaceManagerBuilder.{AddressSpaceManagerBuilder}
-use Rattle.memory.specs.declared.builder.OptionRange.{OptionRange}
-use Rattle.memory.specs.declared.builder.OptionRange.TheVariants.{Some, None}
 use Rattle.memory.specs.Builder.{option_valid, singles_valid, all_as, option_as, state_of, given_range, options_of, reserved_of}
 use Rattle.memory.specs.Used.{overlaps_one, any_overlap, is_right, any_right, any_outside, pieces_of, pieces_used, max_pools, used_of, pools_bad, used_refusal, CutUp}
 use Rattle.memory.specs.Laws.Count.{left_held, pieces-picked}
@@ -43,7 +40,7 @@ HaveBytes xs = All (λ x. HasByte x.range) xs
 pub both_have : (xs ys : List TaggedRange) → HaveBytes xs → HaveBytes ys → HaveBytes (xs ++ ys)
 both_have = all_append (λ x. HasByte x.range)
 
-option-has : (t : ReservedMemoryType) (o : OptionRange) → option_valid o ≡ true → HaveBytes (option_as t o)
+option-has : (t : ReservedMemoryType) (o : (Option MemoryRange)) → option_valid o ≡ true → HaveBytes (option_as t o)
 option-has t (Some r) v = ((valid-parts r v).0, tt)
 option-has t None v = tt
 
@@ -187,10 +184,10 @@ reserved-ordered b configs v w e =
 
 -- the left list holds a piece where an item of it does
 held-left : (u v : Option ℕ) → counted_if left_held (held_by u v) ≡ counted u
-held-left none none = refl
-held-left (some i) none = refl
-held-left none (some j) = refl
-held-left (some i) (some j) = refl
+held-left None None = refl
+held-left (Some i) None = refl
+held-left None (Some j) = refl
+held-left (Some i) (Some j) = refl
 
 module _ (used : MemoryRange) (reserved : List TaggedRange) (has : HasByte used) (order : Ordered 0 (ranges_in reserved)) where
   one : Ordered 0 (used ∷ [])
@@ -221,7 +218,7 @@ holders_as (x ∷ xs) t rs a = omega (arith, holders_as xs t rs a)
 
 module _ (b : AddressSpaceManagerBuilder) (configs pools : List MemoryRange) where
   -- where rows 18 to 20 pass, none of their rules is broken
-  pub used_refused-none : used_refusal b configs pools ≡ none
+  pub used_refused-none : used_refusal b configs pools ≡ None
       → (any_overlap (ranges_in (reserved_of b configs)) ≡ false)
       × (any_outside (b.bootshim_used ∷ []) (ranges_in (sort_by_start (reserved_of b configs))) ≡ false)
       × (pools_bad b.bootshim_used (length (pieces_used b configs)) pools ≡ false)
@@ -242,7 +239,7 @@ module _ (b : AddressSpaceManagerBuilder) (configs pools : List MemoryRange) whe
       ∙ rw (length-append (pieces_used b configs) (all_as Vtl2GpaPool pools), length-all Vtl2GpaPool pools)
 
   -- where the ranges are valid and rows 18 to 20 pass, what is used is in order, and holds the used range and the pool ranges
-  pub used-ordered : singles_valid b ≡ true → all_valid_of configs ≡ true → all_valid_of pools ≡ true → used_refusal b configs pools ≡ none
+  pub used-ordered : singles_valid b ≡ true → all_valid_of configs ≡ true → all_valid_of pools ≡ true → used_refusal b configs pools ≡ None
       → Ordered 0 (ranges_in (used_of b configs pools))
       × ((a : ℕ) → holders (ranges_in (used_of b configs pools)) a ≡ holders (b.bootshim_used ∷ pools) a)
   unfolding used_of
@@ -272,14 +269,14 @@ any-right a (p ∷ ps) o = go (is_right p.result) o (any-right a ps)
         → (t || any_right ps ≡ false) ↔ ((x : ℕ) → holders (cond t (p.range ∷ picked is_right ps) (picked is_right ps)) x ≡ 0)
     go true q rest =
         let s = p.range.start in
-        (λ h. absurd (true≢false h), λ h. let some = rw ((held p.range s).1 (omega arith, q.1.0)) at (h s) in absurd (omega arith))
+        (λ h. absurd (true≢false h), λ h. let Some = rw ((held p.range s).1 (omega arith, q.1.0)) at (h s) in absurd (omega arith))
     go false q rest = rest q
 
 held-right : (u v : Option ℕ) → (counted_if is_right (held_by u v) ≡ 0) ↔ (0 < counted v → 0 < counted u)
-held-right none none = (λ h g. g, λ h. refl)
-held-right (some i) none = (λ h g. omega arith, λ h. refl)
-held-right none (some j) = (λ h g. absurd (omega arith), λ h. absurd (omega (arith, h (omega arith))))
-held-right (some i) (some j) = (λ h g. omega arith, λ h. refl)
+held-right None None = (λ h g. g, λ h. refl)
+held-right (Some i) None = (λ h g. omega arith, λ h. refl)
+held-right None (Some j) = (λ h g. absurd (omega arith), λ h. absurd (omega (arith, h (omega arith))))
+held-right (Some i) (Some j) = (λ h g. omega arith, λ h. refl)
 
 -- rows 19 and 21: no piece is held by the second list alone exactly where each byte of it lies in the first
 pub outside_bytes : (ls rs : List MemoryRange) → Ordered 0 ls → Ordered 0 rs

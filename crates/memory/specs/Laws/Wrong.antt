@@ -1,5 +1,5 @@
 -- Wrong answers of the build, each refuted (docs/PROVED.md).
-use Rattle.std.specs.Prelude.{◌≡◌, Bool, true, false, List, [], ◌∷◌, ◌≢◌, eqb, length, get_or}
+use Rattle.std.specs.Prelude.{◌≡◌, Bool, true, false, List, [], ◌∷◌, ◌≢◌, eqb, length, get_or, Option, Some, None}
 use Rattle.std.proofs.Common.{ap, sym, ◌∙◌, true≢false, arith}
 use Rattle.std.proofs.lemmas.Bool.{false≢true}
 use Rattle.refusal.specs.Number.{used_outside_ram}
@@ -9,15 +9,13 @@ use Rattle.address_space.specs.declared.table.AddressRange.{AddressRange}
 use Rattle.address_space.specs.declared.usage.AddressUsage.TheVariants.{Free}
 use Rattle.address_space.specs.Table.{entry, no_entry, pool_of, empty_table}
 use Rattle.memory.specs.declared.builder.AddressSpaceManagerBuilder.{AddressSpaceManagerBuilder}
-use Rattle.memory.specs.declared.builder.OptionRange.{OptionRange}
-use Rattle.memory.specs.declared.builder.OptionRange.TheVariants.{Some, None}
 use Rattle.memory.specs.Build.{refused, built, has_pool, init_as}
 use Rattle.memory.specs.Builder.{builder_of, with_reserved_range, with_sidecar_image, with_page_tables, with_log_buffer, singles_valid, reserved_count}
 use Rattle.memory.specs.Used.{any_overlap, pools_bad}
 use Rattle.memory.specs.Laws.Build.{pools_good}
 
 -- what the answers are told apart by
-abbrev is_given_in : OptionRange → Bool
+abbrev is_given_in : Option MemoryRange → Bool
 is_given_in (Some r) = true
 is_given_in None = false
 

@@ -1,7 +1,7 @@
 -- The build: every table that it gives is sound, and says of each byte what the ranges given say.
-use Rattle.std.specs.Prelude.{ℕ, ◌≤◌, ◌≡◌, refl, false, List, length}
+use Rattle.std.specs.Prelude.{ℕ, ◌≤◌, ◌≡◌, refl, false, List, length, Option, Some, None}
 use Rattle.std.proofs.Common.{ap, ◌∙◌, arith}
-use Rattle.std.proofs.Math.Option.{Option, none, some}
+use Rattle.refusal.specs.declared.Refusal.{Refusal}
 use Rattle.refusal.specs.Number.{used_outside_ram}
 use Rattle.refusal.specs.Rows.{refused_if, unless}
 use Rattle.refusal.specs.Laws.Rows.{not_refused}
@@ -27,12 +27,12 @@ use Rattle.memory_claims.specs.Laws.Table.{table_sound}
 use Rattle.memory_claims.specs.Laws.Used.{used_says, used-count}
 
 -- what a build that gives a table shows: no row refused
-unless-built : (u : Option ℕ) (o : Build) {es : List AddressRange} → unless refused u o ≡ built es → (u ≡ none) × (o ≡ built es)
-unless-built none o e = (refl, e)
-unless-built (some n) o e = absurd (let z : ◌≡◌ {A = ℕ} 0 1 = cc in omega arith)
+unless-built : (u : Option Refusal) (o : Build) {es : List AddressRange} → unless refused u o ≡ built es → (u ≡ None) × (o ≡ built es)
+unless-built None o e = (refl, e)
+unless-built (Some n) o e = cc
 
 module _ (b : AddressSpaceManagerBuilder) (entries : ℕ) (ram : List TaggedRange) (configs pools : List MemoryRange) where
-  table-built : rows_refusal b entries (ranges_in ram) configs pools ≡ none → used_refusal b configs pools ≡ none
+  table-built : rows_refusal b entries (ranges_in ram) configs pools ≡ None → used_refusal b configs pools ≡ None
       → Built b ram configs pools (table_of ram (used_of b configs pools))
   table-built rows passed =
       let used = used_of b configs pools in
@@ -46,12 +46,12 @@ module _ (b : AddressSpaceManagerBuilder) (entries : ℕ) (ram : List TaggedRang
             table_sound ram used or ou (entries-at-pages ram ok.1) (used-at-pages b configs pools ok.0 ok.2 ok.3) (omega arith);
         count = few;
         says = λ n a e.
-            table_says ram used or ou a ∙ rw e (ap (λ (u : AddressUsage). some (note n u)) (used_says b configs pools ok.0 ok.2 ok.3 passed a));
+            table_says ram used or ou a ∙ rw e (ap (λ (u : AddressUsage). Some (note n u)) (used_says b configs pools ok.0 ok.2 ok.3 passed a));
       }
 
   -- a build that gives a table: no row refused, and the table is that of the RAM and of what is used of it
   pub build-passed : (es : List AddressRange) → build b entries ram configs pools ≡ built es
-      → (rows_refusal b entries (ranges_in ram) configs pools ≡ none) × (used_refusal b configs pools ≡ none) × (table_of ram (used_of b configs pools) ≡ es)
+      → (rows_refusal b entries (ranges_in ram) configs pools ≡ None) × (used_refusal b configs pools ≡ None) × (table_of ram (used_of b configs pools) ≡ es)
       × (any_outside (ranges_in ram) (ranges_in (used_of b configs pools)) ≡ false)
   unfolding build filled
   build-passed es e =

@@ -1,8 +1,7 @@
 -- What a table says of a byte: in lists that are joined, and in a table in order, where it tells how many entries hold the byte.
-use Rattle.std.specs.Prelude.{ℕ, ◌≤◌, ◌<◌, ◌≡◌, refl, Bool, true, false, cond, List, [], ◌∷◌, ◌++◌, eqb}
+use Rattle.std.specs.Prelude.{ℕ, ◌≤◌, ◌<◌, ◌≡◌, refl, Bool, true, false, cond, List, [], ◌∷◌, ◌++◌, eqb, Option, Some, None}
 use Rattle.std.proofs.Common.{ap, arith, le-ltb}
 use Rattle.std.proofs.Math.Bool.{and-false}
-use Rattle.std.proofs.Math.Option.{Option, none, some}
 use Rattle.std.proofs.lemmas.Bool.{lt-leb}
 use Rattle.memory_range.specs.declared.range.MemoryRange.{MemoryRange}
 use Rattle.memory_range.specs.Bytes.{holders, Ordered}
@@ -25,10 +24,10 @@ not_above r a h = rw (le-ltb a r.end h, and-false)
 pub same-behind : (es xs ys : List AddressRange) (a : ℕ) → note_at xs a ≡ note_at ys a → note_at (es ++ xs) a ≡ note_at (es ++ ys) a
 same-behind [] xs ys a h = h
 same-behind (e ∷ es) xs ys a h =
-    ap (λ (u : Option Note). cond (holds e.range a) (some (note e.vnode e.usage)) u) (same-behind es xs ys a h)
+    ap (λ (u : Option Note). cond (holds e.range a) (Some (note e.vnode e.usage)) u) (same-behind es xs ys a h)
 
 -- a table in order says nothing of a byte below its first entry
-pub none_below : (b : ℕ) (es : List AddressRange) (a : ℕ) → Ordered b (ranges_at es) → a < b → note_at es a ≡ none
+pub none_below : (b : ℕ) (es : List AddressRange) (a : ℕ) → Ordered b (ranges_at es) → a < b → note_at es a ≡ None
 none_below b [] a o h = refl
 none_below b (e ∷ es) a o h = rw (not_below e.range a (omega arith)) (none_below e.range.end es a o.1.1 (omega arith))
 
@@ -47,8 +46,8 @@ module _ (e : AddressRange) (higher : List AddressRange) where
 
 -- how many entries of a table in order hold a byte, by what it says of the byte: in all, and of a node
 abbrev pub counted_on : ℕ → Option Note → ℕ
-counted_on n none = 0
-counted_on n (some x) = cond (eqb x.node n) 1 0
+counted_on n None = 0
+counted_on n (Some x) = cond (eqb x.node n) 1 0
 
 pub note-holders : (b : ℕ) (es : List AddressRange) (a : ℕ) → Ordered b (ranges_at es) → holders (ranges_at es) a ≡ counted (note_at es a)
 note-holders b [] a o = refl

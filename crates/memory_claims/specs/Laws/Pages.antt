@@ -1,5 +1,5 @@
 -- All ranges of a build start and end at pages: the reserved ones, so the used pieces, so the table's entries.
-use Rattle.std.specs.Prelude.{ℕ, ◌≡◌, refl, Bool, true, false, cond, List, [], ◌∷◌, ◌++◌, ltb}
+use Rattle.std.specs.Prelude.{ℕ, ◌≡◌, refl, Bool, true, false, cond, List, [], ◌∷◌, ◌++◌, ltb, Option, Some, None}
 use Rattle.std.proofs.Common.{arith}
 use Rattle.memory_range.specs.declared.range.MemoryRange.{MemoryRange}
 use Rattle.memory_range.specs.declared.range.TaggedRange.{TaggedRange}
@@ -18,8 +18,6 @@ use Rattle.address_space.specs.declared.usage.ReservedMemoryType.{ReservedMemory
 use Rattle.address_space.specs.declared.usage.ReservedMemoryType.TheVariants.{Vtl2Config, Vtl2Reserved, SidecarImage, Vtl2GpaPool, TdxPageTables, BootshimLogBuffer, PersistedStatePayload}
 use Rattle.address_space.specs.Table.{ranges_at}
 use Rattle.memory.specs.declared.builder.AddressSpaceManagerBuilder.{AddressSpaceManagerBuilder}
-use Rattle.memory.specs.declared.builder.OptionRange.{OptionRange}
-use Rattle.memory.specs.declared.builder.OptionRange.TheVariants.{Some, None}
 use Rattle.memory.specs.Build.{table_of}
 use Rattle.memory.specs.Builder.{option_valid, singles_valid, all_as, option_as, state_of, given_range, options_of, reserved_of}
 use Rattle.memory.specs.Used.{pieces_used, used_of}
@@ -45,7 +43,7 @@ entries-at-pages xs v = all_map (λ x p. (p.1, p.2)) xs (entries_paged xs v)
 all-at-pages : (t : ReservedMemoryType) (rs : List MemoryRange) → all_valid_of rs ≡ true → AllAtPages (all_as t rs)
 all-at-pages t rs v = entries-at-pages (all_as t rs) (rw (ranges_as t rs) v)
 
-option-at-pages : (t : ReservedMemoryType) (o : OptionRange) → option_valid o ≡ true → AllAtPages (option_as t o)
+option-at-pages : (t : ReservedMemoryType) (o : Option MemoryRange) → option_valid o ≡ true → AllAtPages (option_as t o)
 option-at-pages t (Some r) v = (valid-at-pages r v, tt)
 option-at-pages t None v = tt
 

@@ -1,8 +1,7 @@
 -- What an entry that fits gives a request: a range that was free, and a table that is as sound as it was.
-use Rattle.std.specs.Prelude.{ℕ, ◌≤◌, ◌≡◌, refl, Bool, true, false, cond, ◌&&◌, List, ◌++◌, leb, ltb, length}
-use Rattle.std.proofs.Common.{sym, ◌∙◌, arith, ltb-false, leb-true}
+use Rattle.std.specs.Prelude.{ℕ, ◌≤◌, ◌≡◌, refl, Bool, true, false, cond, ◌&&◌, List, ◌++◌, leb, ltb, length, Option, Some}
+use Rattle.std.proofs.Common.{sym, ◌∙◌, ltb-false, leb-true}
 use Rattle.std.proofs.Math.Bool.{and-eq-true_iff}
-use Rattle.std.proofs.Math.Option.{Option, some}
 use Rattle.refusal.specs.Number.{no_fit, table_full}
 use Rattle.memory_range.specs.declared.range.TaggedRange.{TaggedRange}
 use Rattle.memory_range.specs.Bytes.{holders, Ordered, All}
@@ -13,8 +12,6 @@ use Rattle.memory_range.specs.Laws.Bytes.{counted}
 use Rattle.memory_range.specs.Laws.Count.{bytes_same}
 use Rattle.host_params.specs.declared.AllocationPolicy.{AllocationPolicy}
 use Rattle.host_params.specs.declared.AllocationType.{AllocationType}
-use Rattle.host_params.specs.declared.OptionU32.{OptionU32}
-use Rattle.host_params.specs.declared.OptionU64.{OptionU64}
 use Rattle.boot_ram.specs.Held.{on_node}
 use Rattle.address_space.specs.declared.request.AllocatedRange.{AllocatedRange}
 use Rattle.address_space.specs.declared.table.AddressRange.{AddressRange}
@@ -31,8 +28,8 @@ use Rattle.memory_claims.specs.Laws.Notes.{counted_on, note-holders, note-holder
 -- the only free usage
 free_usage : (u : AddressUsage) → is_free u ≡ true → u ≡ Free
 free_usage Free h = refl
-free_usage Used h = absurd (let z : ◌≡◌ {A = ℕ} 0 1 = cc in omega arith)
-free_usage (Reserved t) h = absurd (let z : ◌≡◌ {A = ℕ} 0 1 = cc in omega arith)
+free_usage Used h = cc
+free_usage (Reserved t) h = cc
 
 -- what is handed out, and what is not refused for want of a fit, where an entry was found
 module _ (x : AllocatedRange) (xs : List AddressRange) where
@@ -41,17 +38,17 @@ module _ (x : AllocatedRange) (xs : List AddressRange) where
     where
       go : (t : Bool) → ltb max_address_ranges (length xs) ≡ t → cond t (refused table_full) (handed x xs) ≡ handed y ys
           → (x ≡ y) × (xs ≡ ys) × (length xs ≤ max_address_ranges)
-      go true p q = absurd (let z : ◌≡◌ {A = ℕ} 0 1 = cc in omega arith)
+      go true p q = cc
       go false p q = (cc, cc, ltb-false max_address_ranges (length xs) p)
 
   placed-fits : placed_as x xs ≡ refused no_fit → ⊥
   placed-fits h = go (ltb max_address_ranges (length xs)) h
     where
       go : (t : Bool) → cond t (refused table_full) (handed x xs) ≡ refused no_fit → ⊥
-      go true q = let z : table_full ≡ no_fit = cc in omega arith
-      go false q = let z : ◌≡◌ {A = ℕ} 0 1 = cc in omega arith
+      go true q = cc
+      go false q = cc
 
-module _ (len : ℕ) (type : AllocationType) (policy : AllocationPolicy) (alignment : OptionU64) where
+module _ (len : ℕ) (type : AllocationType) (policy : AllocationPolicy) (alignment : Option ℕ) where
   -- what is handed out of an entry
   abbrev pub outcome : AddressRange → AllocatedRange
   outcome e = record { range = allotted policy len (aligned_to alignment e.range); vnode = e.vnode }
@@ -61,7 +58,7 @@ module _ (len : ℕ) (type : AllocationType) (policy : AllocationPolicy) (alignm
       → placed len type policy alignment lower e higher ≡ refused no_fit → ⊥
   found-placed lower e higher h = placed-fits (outcome e) (lower ++ split_entry (outcome e).range (usage_for type) e ++ higher) h
 
-module _ (asked : OptionU32) (len : ℕ) (type : AllocationType) (policy : AllocationPolicy) (alignment : OptionU64) where
+module _ (asked : Option ℕ) (len : ℕ) (type : AllocationType) (policy : AllocationPolicy) (alignment : Option ℕ) where
   -- an entry that fits is free, on the asked node, and its aligned part is long enough
   pub fits-parts : (e : AddressRange) → fits_in asked len alignment e ≡ true
       → (e.usage ≡ Free) × (on_asked_node asked e.vnode ≡ true) × (len ≤ length_of (aligned_to alignment e.range))
@@ -77,7 +74,7 @@ module _ (asked : OptionU32) (len : ℕ) (type : AllocationType) (policy : Alloc
   module _ (ram : List TaggedRange) (es es' : List AddressRange) (x : AllocatedRange)
       (sound : Sound ram es)
       (gives : Handed asked len type policy alignment es x es') where
-    said_alike : (f : Option Note → ℕ) → ((n : ℕ) (u v : AddressUsage) → f (some (note n u)) ≡ f (some (note n v)))
+    said_alike : (f : Option Note → ℕ) → ((n : ℕ) (u v : AddressUsage) → f (Some (note n u)) ≡ f (Some (note n v)))
         → (a : ℕ) → f (note_at es' a) ≡ f (note_at es a)
     said_alike f same a = go (holds x.range a) refl
       where

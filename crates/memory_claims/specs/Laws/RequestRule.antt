@@ -1,13 +1,13 @@
 -- The rows of a request as rules: one that is met keeps every rule, and one that is refused tells the number of the first that is broken.
 -- So a request that keeps all of them is met.
-use Rattle.std.specs.Prelude.{ℕ, ◌+◌, ◌-◌, ◌^◌, ◌≤◌, ◌<◌, Bool, true, false, cond, not, List, [], ◌∷◌, ◌++◌, ◌↔◌, leb, ltb, eqb}
+use Rattle.std.specs.Prelude.{ℕ, ◌+◌, ◌-◌, ◌^◌, ◌≤◌, ◌<◌, Bool, true, false, cond, not, List, [], ◌∷◌, ◌++◌, ◌↔◌, leb, ltb, eqb, Option, Some, None}
 use Rattle.std.proofs.Math.Path.{◌≡◌, refl, sym, ap}
 use Rattle.std.proofs.Common.{◌∙◌, true≢false, arith, eqb-true, ltb-true, ltb-false, length-append}
 use Rattle.std.proofs.lemmas.List.{reverse-reverse}
-use Rattle.std.proofs.Math.Option.{Option, none, some, none-ne-some}
 use Rattle.std.proofs.lemmas.Bool.{eqb-false}
 use Rattle.std.proofs.Math.ListN.{length}
-use Rattle.refusal.specs.Number.{length_zero, length_too_large, alignment_invalid, no_fit, table_full}
+use Rattle.refusal.specs.declared.Refusal.{Refusal}
+use Rattle.refusal.specs.Number.{length_zero, length_too_large, alignment_invalid, no_fit, table_full, number_of}
 use Rattle.refusal.specs.Rows.{refused_if}
 use Rattle.refusal.specs.Laws.Rows.{told_in-turn, unless-told, contrary}
 use Rattle.refusal.specs.Laws.Rule as rule
@@ -19,9 +19,6 @@ use Rattle.memory_range.specs.Laws.Power.{power_of-two}
 use Rattle.host_params.specs.declared.AllocationPolicy.{AllocationPolicy}
 use Rattle.host_params.specs.declared.AllocationPolicy.TheVariants.{LowMemory, HighMemory}
 use Rattle.host_params.specs.declared.AllocationType.{AllocationType}
-use Rattle.host_params.specs.declared.OptionU32.{OptionU32}
-use Rattle.host_params.specs.declared.OptionU64.{OptionU64}
-use Rattle.host_params.specs.declared.OptionU64.TheVariants as number-or-none
 use Rattle.address_space.specs.declared.request.AllocatedRange.{AllocatedRange}
 use Rattle.address_space.specs.declared.table.AddressRange.{AddressRange}
 use Rattle.address_space.specs.Fit.{aligned_to, fits_in}
@@ -38,7 +35,7 @@ use Rattle.memory_claims.specs.RequestRule.{RequestRow, row22, row23, row24, row
 use Rattle.memory_claims.specs.Laws.Request.{allocated_no_fit, passed-rows, rows-passed}
 
 -- the numbers of the rows are 22 to 26, each of one row
-numbered : (row : RequestRow) → (length_zero ≤ number row) × (number row ≤ table_full)
+numbered : (row : RequestRow) → (number_of length_zero ≤ number row) × (number row ≤ number_of table_full)
 numbered row22 = (omega arith, omega arith)
 numbered row23 = (omega arith, omega arith)
 numbered row24 = (omega arith, omega arith)
@@ -56,9 +53,9 @@ row-of row25 = refl
 row-of row26 = refl
 
 -- row 24
-good_alignment : (alignment : OptionU64) → Of64Bits alignment → (alignment_good alignment ≡ true) ↔ GoodAlignment alignment
-good_alignment (number-or-none.Some m) bits = power_of-two m bits
-good_alignment number-or-none.None bits = (λ _. tt, λ _. refl)
+good_alignment : (alignment : Option ℕ) → Of64Bits alignment → (alignment_good alignment ≡ true) ↔ GoodAlignment alignment
+good_alignment (Some m) bits = power_of-two m bits
+good_alignment None bits = (λ _. tt, λ _. refl)
 
 -- the search looks at no entry that fits before the one that it finds, and finds the first that does
 none_looked-at : (policy : AllocationPolicy) (f : AddressRange → Bool) (es before : List AddressRange) (e : AddressRange) (after : List AddressRange)
@@ -66,14 +63,14 @@ none_looked-at : (policy : AllocationPolicy) (f : AddressRange → Bool) (es bef
 none_looked-at LowMemory f es before e after h = lowest_fit f es before e after h
 none_looked-at HighMemory f es before e after h = highest_fit f es before e after h
 
-first-placed : (len : ℕ) (type : AllocationType) (policy : AllocationPolicy) (alignment : OptionU64) (f : AddressRange → Bool)
+first-placed : (len : ℕ) (type : AllocationType) (policy : AllocationPolicy) (alignment : Option ℕ) (f : AddressRange → Bool)
     (below : List AddressRange) (e : AddressRange) (above : List AddressRange) → f e ≡ true → All (λ y. f y ≡ false) (seen_before policy below above)
     → placed_from len type policy alignment (searched policy f (below ++ e ∷ above)) ≡ placed len type policy alignment below e above
 first-placed len type LowMemory alignment f below e above g h = rw (low-found f below e above g h)
 first-placed len type HighMemory alignment f below e above g h = rw (high-found f below e above g h, reverse-reverse below, reverse-reverse above)
 
 -- the entries once one is split
-split-count : (len : ℕ) (type : AllocationType) (policy : AllocationPolicy) (alignment : OptionU64) (below : List AddressRange) (e : AddressRange)
+split-count : (len : ℕ) (type : AllocationType) (policy : AllocationPolicy) (alignment : Option ℕ) (below : List AddressRange) (e : AddressRange)
     (above : List AddressRange)
     → length (below ++ split_entry (allotted policy len (aligned_to alignment e.range)) (usage_for type) e ++ above)
     ≡ length (below ++ e ∷ above) + added_by len policy alignment e
@@ -83,23 +80,23 @@ split-count len type policy alignment below e above =
     rw (length-append (below ++ parts) above, length-append below parts, length-append below (e ∷ above), split-length used (usage_for type) e) (omega arith)
 
 -- entries that are refused as too many are
-full-told : (x : AllocatedRange) (es : List AddressRange) {n : ℕ} → placed_as x es ≡ refused n → (table_full ≡ n) × (max_address_ranges < length es)
+full-told : (x : AllocatedRange) (es : List AddressRange) {n : Refusal} → placed_as x es ≡ refused n → (table_full ≡ n) × (max_address_ranges < length es)
 full-told x es {n} = go (ltb max_address_ranges (length es)) refl
   where
     go : (t : Bool) → ltb max_address_ranges (length es) ≡ t → cond t (refused table_full) (handed x es) ≡ refused n
         → (table_full ≡ n) × (max_address_ranges < length es)
     go true full e = (cc, ltb-true max_address_ranges (length es) full)
-    go false full e = let z : ◌≡◌ {A = ℕ} 0 1 = cc in absurd (omega arith)
+    go false full e = cc
 
 -- those that are not are within the bound
 full-kept : (x y : AllocatedRange) (es es' : List AddressRange) → placed_as x es ≡ handed y es' → length es ≤ max_address_ranges
 full-kept x y es es' = go (ltb max_address_ranges (length es)) refl
   where
     go : (t : Bool) → ltb max_address_ranges (length es) ≡ t → cond t (refused table_full) (handed x es) ≡ handed y es' → length es ≤ max_address_ranges
-    go true full e = let z : ◌≡◌ {A = ℕ} 0 1 = cc in absurd (omega arith)
+    go true full e = cc
     go false full e = ltb-false max_address_ranges (length es) full
 
-module _ (asked : OptionU32) (len : ℕ) (type : AllocationType) (policy : AllocationPolicy) (alignment : OptionU64) (es : List AddressRange)
+module _ (asked : Option ℕ) (len : ℕ) (type : AllocationType) (policy : AllocationPolicy) (alignment : Option ℕ) (es : List AddressRange)
     (bits : Of64Bits alignment) where
   abbrev Rules : RequestRow → Type 0
   Rules = RequestRule asked len policy alignment es
@@ -107,11 +104,11 @@ module _ (asked : OptionU32) (len : ℕ) (type : AllocationType) (policy : Alloc
   abbrev Keeps : ℕ → Type 0
   Keeps = RequestKept asked len policy alignment es
 
-  abbrev Breaks : ℕ → Type 0
-  Breaks = RequestBroken asked len policy alignment es
+  abbrev Breaks : Refusal → Type 0
+  Breaks n = RequestBroken asked len policy alignment es (number_of n)
 
-  nothing_yet : Keeps length_zero
-  nothing_yet = rule.kept-none number Rules length_zero (λ row. (numbered row).0)
+  nothing_yet : Keeps (number_of length_zero)
+  nothing_yet = rule.kept-none number Rules (number_of length_zero) (λ row. (numbered row).0)
 
   kept_next : (row : RequestRow) → Keeps (number row) → Rules row → Keeps (number row + 1)
   kept_next = rule.kept_more number Rules row_of row-of
@@ -126,7 +123,7 @@ module _ (asked : OptionU32) (len : ℕ) (type : AllocationType) (policy : Alloc
   abbrev after_split : List AddressRange → AddressRange → List AddressRange → List AddressRange
   after_split below e above = below ++ split_entry (allotted policy pages (aligned_to alignment e.range)) (usage_for type) e ++ above
 
-  rows-broken : {n : ℕ} → rows_refusal len alignment ≡ some n → Breaks n
+  rows-broken : {n : Refusal} → rows_refusal len alignment ≡ Some n → Breaks n
   rows-broken =
       let large = ltb (2 ^ 64 - page_size) len in
       let good = alignment_good alignment in
@@ -143,22 +140,22 @@ module _ (asked : OptionU32) (len : ℕ) (type : AllocationType) (policy : Alloc
         λ h. contrary good ((good_alignment alignment bits).1 h) e,
         kept_next row23 upto22 (ltb-false (2 ^ 64 - page_size) len l),
       ))
-      (λ _ e. absurd (none-ne-some _ e))))
+      (λ _ e. cc)))
 
-  rows-kept : rows_refusal len alignment ≡ none → Keeps no_fit
+  rows-kept : rows_refusal len alignment ≡ None → Keeps (number_of no_fit)
   rows-kept e =
       let p = rows-passed asked len type policy alignment es e in
       kept_next row24 (kept_next row23 (kept_next row22 nothing_yet p.0) p.2) ((good_alignment alignment bits).0 p.1)
 
   -- rows 25 and 26, where those above them are passed
-  module _ (passed : Keeps no_fit) where
+  module _ (passed : Keeps (number_of no_fit)) where
     found-broken : (below : List AddressRange) (e : AddressRange) (above : List AddressRange) → FirstFit asked len policy alignment es below e above
-        → {n : ℕ} → placed pages type policy alignment below e above ≡ refused n → Breaks n
+        → {n : Refusal} → placed pages type policy alignment below e above ≡ refused n → Breaks n
     found-broken below e above first {n} f =
         let told = full-told _ (after_split below e above) f in
         let count = split-count pages type policy alignment below e above in (
           row26,
-          told.0,
+          ap number_of told.0,
           λ h. absurd (omega (arith, told.1, h below e above first, ap length first.0)),
           kept_next row25 passed (below, e, above, first.0, first.1),
         )
@@ -167,11 +164,11 @@ module _ (asked : OptionU32) (len : ℕ) (type : AllocationType) (policy : Alloc
     unfolding allocated
     searched_nothing e = rw e
 
-    search-broken : (s : Search AddressRange) → searched policy fits es ≡ s → {n : ℕ} → placed_from pages type policy alignment s ≡ refused n → Breaks n
+    search-broken : (s : Search AddressRange) → searched policy fits es ≡ s → {n : Refusal} → placed_from pages type policy alignment s ≡ refused n → Breaks n
     search-broken nothing e {n} f =
         let same : no_fit ≡ n = cc in
         let none-fits = (allocated_no_fit asked pages type policy alignment es).0 (searched_nothing e) in
-        (row25, same, λ h. fit_among none-fits h, passed)
+        (row25, ap number_of same, λ h. fit_among none-fits h, passed)
       where
         fit_among : All (λ e. fits e ≡ false) es → Rules row25 → ⊥
         fit_among all (below, e, above, whole, fit) =
@@ -182,7 +179,7 @@ module _ (asked : OptionU32) (len : ℕ) (type : AllocationType) (policy : Alloc
         found-broken (below_in policy before after) e (above_in policy before after) (whole, fit, none_looked-at policy fits es before e after p) f
 
   -- a refusal tells the number of the first rule that is broken
-  pub refused-broken : {n : ℕ} → requested asked len type policy alignment es ≡ refused n → Breaks n
+  pub refused-broken : {n : Refusal} → requested asked len type policy alignment es ≡ refused n → Breaks n
   unfolding requested allocated
   refused-broken =
       unless-told refused (λ k n e. cc) Breaks (rows_refusal len alignment) (placed_from pages type policy alignment (searched policy fits es)) rows-broken
@@ -192,7 +189,7 @@ module _ (asked : OptionU32) (len : ℕ) (type : AllocationType) (policy : Alloc
   module _ (x : AllocatedRange) (es' : List AddressRange) (e : requested asked len type policy alignment es ≡ handed x es') where
     -- of the first entry that fits, however it is found
     first-splits : (below : List AddressRange) (y : AddressRange) (above : List AddressRange) → FirstFit asked len policy alignment es below y above
-        → rows_refusal len alignment ≡ none → length es + added_by pages policy alignment y ≤ max_address_ranges
+        → rows_refusal len alignment ≡ None → length es + added_by pages policy alignment y ≤ max_address_ranges
     unfolding allocated
     first-splits below y above first passed =
         let searched-for = rw (passed-rows asked len type policy alignment es passed, first.0) at e in
@@ -200,12 +197,12 @@ module _ (asked : OptionU32) (len : ℕ) (type : AllocationType) (policy : Alloc
         let within = full-kept _ x (after_split below y above) es' placed-there in
         omega (arith, within, split-count pages type policy alignment below y above, ap length first.0)
 
-    some_fits : rows_refusal len alignment ≡ none → Rules row25
+    some_fits : rows_refusal len alignment ≡ None → Rules row25
     unfolding allocated
     some_fits passed = go (searched policy fits es) refl (rw (passed-rows asked len type policy alignment es passed) at e)
       where
         go : (s : Search AddressRange) → searched policy fits es ≡ s → placed_from pages type policy alignment s ≡ handed x es' → Rules row25
-        go nothing p f = let z : ◌≡◌ {A = ℕ} 0 1 = cc in absurd (omega arith)
+        go nothing p f = cc
         go (found before y after) p f = (
           below_in policy before after,
           y,
@@ -217,14 +214,13 @@ module _ (asked : OptionU32) (len : ℕ) (type : AllocationType) (policy : Alloc
     pub handed-kept : (row : RequestRow) → Rules row
     handed-kept = go (rows_refusal len alignment) refl
       where
-        go : (u : Option ℕ) → rows_refusal len alignment ≡ u → (row : RequestRow) → Rules row
-        go none passed =
+        go : (u : Option Refusal) → rows_refusal len alignment ≡ u → (row : RequestRow) → Rules row
+        go None passed =
             let upto25 = kept_next row25 (rows-kept passed) (some_fits passed) in
             let all = kept_next row26 upto25 (λ below y above first. first-splits below y above first passed) in
-            rule.kept-all number Rules (table_full + 1) (λ row. omega (arith, (numbered row).1)) all
-        go (some n) refusing =
-            let r = requested_refused asked len type policy alignment es n (rw refusing) in
-            let z : ◌≡◌ {A = ℕ} 0 1 = cc in absurd (omega arith)
+            rule.kept-all number Rules (number_of table_full + 1) (λ row. omega (arith, (numbered row).1)) all
+        go (Some n) refusing =
+            let r = requested_refused asked len type policy alignment es n (rw refusing) in cc
 
   -- so one that keeps every rule is met
   pub kept-handed : ((row : RequestRow) → Rules row)

@@ -1,8 +1,7 @@
 -- What a table is after one of its entries is split: in order, valid, and what it says of each byte.
-use Rattle.std.specs.Prelude.{ℕ, ◌%◌, ◌≤◌, ◌<◌, ◌≡◌, refl, true, false, cond, List, [], ◌∷◌, ◌++◌}
+use Rattle.std.specs.Prelude.{ℕ, ◌%◌, ◌≤◌, ◌<◌, ◌≡◌, refl, true, false, cond, List, [], ◌∷◌, ◌++◌, Some}
 use Rattle.std.proofs.Common.{◌∙◌, append_assoc, arith, lt-ltb, le-ltb}
 use Rattle.std.proofs.Math.Bool.{and-eq-true_iff}
-use Rattle.std.proofs.Math.Option.{some}
 use Rattle.std.proofs.Math.Decide.{dec_lt}
 use Rattle.memory_range.specs.declared.range.MemoryRange.{MemoryRange}
 use Rattle.memory_range.specs.Bytes.{Ordered, All}
@@ -21,10 +20,10 @@ use Rattle.memory_claims.specs.Laws.Notes.{not_below, not_above, same-behind, sa
 
 -- what is left free, in front of other entries
 module _ (n s t : ℕ) (rest : List AddressRange) where
-  left-note : (a : ℕ) → note_at (left_free n s t ++ rest) a ≡ cond (holds (range s t) a) (some (note n Free)) (note_at rest a)
+  left-note : (a : ℕ) → note_at (left_free n s t ++ rest) a ≡ cond (holds (range s t) a) (Some (note n Free)) (note_at rest a)
   left-note a = go (dec_lt s t) (place (range s t) a)
     where
-      go : Dec (s < t) → Place (range s t) a → note_at (left_free n s t ++ rest) a ≡ cond (holds (range s t) a) (some (note n Free)) (note_at rest a)
+      go : Dec (s < t) → Place (range s t) a → note_at (left_free n s t ++ rest) a ≡ cond (holds (range s t) a) (Some (note n Free)) (note_at rest a)
       go (yes h) p = rw (lt-ltb s t h)
       go (no h) (below l f) = rw (le-ltb s t (omega arith), f)
       go (no h) (inside l k f) = absurd (omega arith)
@@ -86,13 +85,13 @@ module _ (lower : List AddressRange) (e : AddressRange) (higher : List AddressRa
   top_part = left_free e.vnode used.end e.range.end ++ higher
 
   part-note : (a : ℕ) → note_at parts a
-      ≡ cond (holds (range e.range.start used.start) a) (some (note e.vnode Free))
-      (cond (holds used a) (some (note e.vnode usage)) (note_at top_part a))
+      ≡ cond (holds (range e.range.start used.start) a) (Some (note e.vnode Free))
+      (cond (holds used a) (Some (note e.vnode usage)) (note_at top_part a))
   part-note a =
       rw append_assoc
       (left-note e.vnode e.range.start used.start (handed_out e.vnode usage used ∷ top_part) a)
 
-  part-used : (a : ℕ) → holds used a ≡ true → note_at parts a ≡ some (note e.vnode usage)
+  part-used : (a : ℕ) → holds used a ≡ true → note_at parts a ≡ Some (note e.vnode usage)
   part-used a h =
       let inner = (held used a).0 h in
       part-note a ∙ rw (not_above (range e.range.start used.start) a inner.0, h)
@@ -101,15 +100,15 @@ module _ (lower : List AddressRange) (e : AddressRange) (higher : List AddressRa
   part_other free a h = part-note a ∙ rw (h, left-note e.vnode used.end e.range.end higher a, free) (go (place e.range a) (place used a))
     where
       go : Place e.range a → Place used a
-          → cond (holds (range e.range.start used.start) a) (some (note e.vnode Free))
-          (cond (holds (range used.end e.range.end) a) (some (note e.vnode Free)) (note_at higher a))
-          ≡ cond (holds e.range a) (some (note e.vnode Free)) (note_at higher a)
+          → cond (holds (range e.range.start used.start) a) (Some (note e.vnode Free))
+          (cond (holds (range used.end e.range.end) a) (Some (note e.vnode Free)) (note_at higher a))
+          ≡ cond (holds e.range a) (Some (note e.vnode Free)) (note_at higher a)
       go (below l f) p =
           rw (not_below (range e.range.start used.start) a l, not_below (range used.end e.range.end) a (omega arith), f)
       go (above l f) p =
           rw (not_above (range e.range.start used.start) a (omega arith), not_above (range used.end e.range.end) a l, f)
       go (inside l k f) (below m g) = rw ((held (range e.range.start used.start) a).1 (l, m), f)
-      go (inside l k f) (inside m n g) = absurd (let z : ◌≡◌ {A = ℕ} 0 1 = cc in omega arith)
+      go (inside l k f) (inside m n g) = cc
       go (inside l k f) (above m g) =
           rw (not_above (range e.range.start used.start) a (omega arith), (held (range used.end e.range.end) a).1 (m, k), f)
 
@@ -164,12 +163,12 @@ module _ (lower : List AddressRange) (e : AddressRange) (higher : List AddressRa
 
   -- a byte of the range handed out was one of the entry, and has the new usage
   module _ (a : ℕ) (b : ℕ) (o : Ordered b (ranges_at before)) (h : holds used a ≡ true) where
-    pub split_was : note_at before a ≡ some (note e.vnode e.usage)
+    pub split_was : note_at before a ≡ Some (note e.vnode e.usage)
     split_was =
         let inner = (held used a).0 h in
         said-behind e higher b lower (e ∷ higher) a o (omega arith) ∙ rw ((held e.range a).1 (omega arith, omega arith))
 
-    pub split_now : note_at after a ≡ some (note e.vnode usage)
+    pub split_now : note_at after a ≡ Some (note e.vnode usage)
     split_now =
         let inner = (held used a).0 h in
         rw after-parts (said-behind e higher b lower parts a o (omega arith) ∙ part-used a h)

@@ -1,7 +1,6 @@
 -- The table of a RAM list and of what is used of it, both in order and at pages, is sound, if it has not too many entries.
-use Rattle.std.specs.Prelude.{ℕ, ◌≤◌, ◌≡◌, refl, List, eqb, length}
+use Rattle.std.specs.Prelude.{ℕ, ◌≤◌, ◌≡◌, refl, List, eqb, length, Option, Some, None}
 use Rattle.std.proofs.Common.{ap, sym, ◌∙◌}
-use Rattle.std.proofs.Math.Option.{Option, none, some}
 use Rattle.memory_range.specs.declared.range.TaggedRange.{TaggedRange}
 use Rattle.memory_range.specs.Bytes.{holders, Ordered}
 use Rattle.memory_range.specs.List.{ranges_in}
@@ -20,12 +19,12 @@ use Rattle.memory_claims.specs.Laws.Walked.{note_of, table-ordered, table_says}
 
 -- what is said of a byte's node is what the RAM says
 note-counted : (u v : Option ℕ) → counted (note_of u v) ≡ counted u
-note-counted none v = refl
-note-counted (some n) v = refl
+note-counted None v = refl
+note-counted (Some n) v = refl
 
 note-counted-on : (n : ℕ) (u v : Option ℕ) → counted_on n (note_of u v) ≡ counted_if (λ t. eqb t n) u
-note-counted-on n none v = refl
-note-counted-on n (some m) v = refl
+note-counted-on n None v = refl
+note-counted-on n (Some m) v = refl
 
 -- the table of a RAM list and what is used of it, both in order and at pages: each byte keeps its node, and all but the count follows
 module _ (ram used : List TaggedRange) (or : Ordered 0 (ranges_in ram)) (ou : Ordered 0 (ranges_in used)) where

@@ -1,8 +1,7 @@
 -- What is used, the pieces and the pool ranges: it says of each byte what the ranges given to the build say, and it is at most 84 ranges.
-use Rattle.std.specs.Prelude.{ℕ, ◌+◌, ◌≤◌, ◌<◌, ◌≡◌, refl, Bool, true, false, cond, List, [], ◌∷◌, ◌++◌, ltb, length}
+use Rattle.std.specs.Prelude.{ℕ, ◌+◌, ◌≤◌, ◌<◌, ◌≡◌, refl, Bool, true, false, cond, List, [], ◌∷◌, ◌++◌, ltb, length, Option, Some, None}
 use Rattle.std.proofs.Math.Path.{ap}
 use Rattle.std.proofs.Common.{sym, ◌∙◌, arith, ltb-false}
-use Rattle.std.proofs.Math.Option.{Option, none, some}
 use Rattle.memory_range.specs.declared.range.MemoryRange.{MemoryRange}
 use Rattle.memory_range.specs.declared.range.TaggedRange.{TaggedRange}
 use Rattle.memory_range.specs.Bytes.{holders, Ordered}
@@ -27,14 +26,14 @@ use Rattle.memory_claims.specs.Laws.Walked.{piece_tag, pieces_tag}
 said_same : (held : Bool) (r p : Option ℕ) → (0 < counted r → 0 < cond held 1 0 + 0) → cond held 1 0 + counted p ≤ 1
     → said_by (or_else (piece_tag held r) p) false ≡ said_by (or_else r p) held
 unfolding usage_of
-said_same false none p inside apart = refl
-said_same false (some t) p inside apart = absurd (let z = inside (omega arith) in omega arith)
-said_same true (some t) p inside apart = refl
-said_same true none none inside apart = refl
-said_same true none (some t) inside apart = absurd (omega arith)
+said_same false None p inside apart = refl
+said_same false (Some t) p inside apart = absurd (let z = inside (omega arith) in omega arith)
+said_same true (Some t) p inside apart = refl
+said_same true None None inside apart = refl
+said_same true None (Some t) inside apart = absurd (omega arith)
 
 module _ (b : AddressSpaceManagerBuilder) (configs pools : List MemoryRange) (singles : singles_valid b ≡ true) (vc : all_valid_of configs ≡ true)
-    (vp : all_valid_of pools ≡ true) (passed : used_refusal b configs pools ≡ none) where
+    (vp : all_valid_of pools ≡ true) (passed : used_refusal b configs pools ≡ None) where
   abbrev reserved : List TaggedRange
   reserved = reserved_of b configs
 

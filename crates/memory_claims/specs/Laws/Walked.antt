@@ -1,8 +1,7 @@
 -- What is made from the pieces of a walk says of each byte: the table, and the pieces of the used range.
-use Rattle.std.specs.Prelude.{ℕ, ◌<◌, ◌≡◌, refl, Bool, true, false, cond, List, [], ◌∷◌, ◌++◌}
+use Rattle.std.specs.Prelude.{ℕ, ◌<◌, ◌≡◌, refl, Bool, true, false, cond, List, [], ◌∷◌, ◌++◌, Option, Some, None, option_map}
 use Rattle.std.proofs.Math.Path.{ap}
 use Rattle.std.proofs.Common.{ap₂, sym, ◌∙◌, arith}
-use Rattle.std.proofs.Math.Option.{Option, none, some, map}
 use Rattle.memory_range.specs.declared.range.MemoryRange.{MemoryRange}
 use Rattle.memory_range.specs.declared.range.TaggedRange.{TaggedRange}
 use Rattle.range_lists.specs.declared.walk.RangeWalkResult.{RangeWalkResult}
@@ -27,17 +26,17 @@ use Rattle.memory_claims.specs.Laws.Said.{tag_of, tag_item}
 -- a piece of the table, from what the walk says of it: a piece of the RAM is in the table, any other is not
 module _ (ram used : List TaggedRange) where
   abbrev note_by : Option RangeWalkResult → Option Note
-  note_by none = none
-  note_by (some (Left i)) = some (note (tag_of ram i) Free)
-  note_by (some (Right j)) = none
-  note_by (some (Both i j)) = some (note (tag_of ram i) (usage_of (tag_of used j)))
+  note_by None = None
+  note_by (Some (Left i)) = Some (note (tag_of ram i) Free)
+  note_by (Some (Right j)) = None
+  note_by (Some (Both i j)) = Some (note (tag_of ram i) (usage_of (tag_of used j)))
 
   entries_say : (a : ℕ) (ps : List WalkPiece) (x : ℕ) → Ordered a (piece_ranges ps) → note_at (table_entries ram used ps) x ≡ note_by (result_at ps x)
   entries_say a [] x o = refl
   entries_say a (p ∷ ps) x o = go p.result (holds p.range x) refl (entries_say p.range.end ps x o.1.1)
     where
       go : (h : RangeWalkResult) (t : Bool) → holds p.range x ≡ t → note_at (table_entries ram used ps) x ≡ note_by (result_at ps x)
-          → note_at (table_entry ram used p.range h ++ table_entries ram used ps) x ≡ note_by (cond t (some h) (result_at ps x))
+          → note_at (table_entry ram used p.range h ++ table_entries ram used ps) x ≡ note_by (cond t (Some h) (result_at ps x))
       go (Left i) true q e = rw q
       go (Left i) false q e = rw q e
       go (Right j) true q e = e ∙ ap note_by (result-none p.range.end ps x o.1.1 ((held p.range x).0 q).1)
@@ -78,15 +77,15 @@ module _ (ram used : List TaggedRange) where
 
 -- what the table says of a byte, from the tags of the RAM range and the used range that hold it
 abbrev pub note_of : Option ℕ → Option ℕ → Option Note
-note_of none v = none
-note_of (some n) v = some (note n (said_by v false))
+note_of None v = None
+note_of (Some n) v = Some (note n (said_by v false))
 
 named-note : (ram used : List TaggedRange) (u v : Option ℕ)
-    → note_by ram used (held_by u v) ≡ note_of (map (tag_of ram) u) (map (tag_of used) v)
-named-note ram used none none = refl
-named-note ram used none (some j) = refl
-named-note ram used (some i) none = refl
-named-note ram used (some i) (some j) = refl
+    → note_by ram used (held_by u v) ≡ note_of (option_map (tag_of ram) u) (option_map (tag_of used) v)
+named-note ram used None None = refl
+named-note ram used None (Some j) = refl
+named-note ram used (Some i) None = refl
+named-note ram used (Some i) (Some j) = refl
 
 pub table_says : (ram used : List TaggedRange) → Ordered 0 (ranges_in ram) → Ordered 0 (ranges_in used) → (a : ℕ)
     → note_at (table_of ram used) a ≡ note_of (tag_at ram a) (tag_at used a)
@@ -96,24 +95,24 @@ table_says ram used or ou a =
 
 -- the tag of a byte of the used range, from whether the range holds it and the tag of the reserved range that does
 abbrev pub piece_tag : Bool → Option ℕ → Option ℕ
-piece_tag false v = none
-piece_tag true none = some used_number
-piece_tag true (some t) = some t
+piece_tag false v = None
+piece_tag true None = Some used_number
+piece_tag true (Some t) = Some t
 
 -- the pieces of the used range, likewise
 module _ (reserved : List TaggedRange) where
   abbrev piece_by : Option RangeWalkResult → Option ℕ
-  piece_by none = none
-  piece_by (some (Left i)) = some used_number
-  piece_by (some (Right j)) = none
-  piece_by (some (Both i j)) = some (tag_of reserved j)
+  piece_by None = None
+  piece_by (Some (Left i)) = Some used_number
+  piece_by (Some (Right j)) = None
+  piece_by (Some (Both i j)) = Some (tag_of reserved j)
 
   pieces_say : (a : ℕ) (ps : List WalkPiece) (x : ℕ) → Ordered a (piece_ranges ps) → tag_at (used_pieces reserved ps) x ≡ piece_by (result_at ps x)
   pieces_say a [] x o = refl
   pieces_say a (p ∷ ps) x o = go p.result (holds p.range x) refl (pieces_say p.range.end ps x o.1.1)
     where
       go : (h : RangeWalkResult) (t : Bool) → holds p.range x ≡ t → tag_at (used_pieces reserved ps) x ≡ piece_by (result_at ps x)
-          → tag_at (used_piece reserved p.range h ++ used_pieces reserved ps) x ≡ piece_by (cond t (some h) (result_at ps x))
+          → tag_at (used_piece reserved p.range h ++ used_pieces reserved ps) x ≡ piece_by (cond t (Some h) (result_at ps x))
       go (Left i) true q e = rw q
       go (Left i) false q e = rw q e
       go (Right j) true q e = e ∙ ap piece_by (result-none p.range.end ps x o.1.1 ((held p.range x).0 q).1)
@@ -131,11 +130,11 @@ module _ (reserved : List TaggedRange) where
       go (Right j) rest = rest
       go (Both i j) rest = (h.0, rest)
 
-  named-piece : (t : Bool) (v : Option ℕ) → piece_by (held_by (cond t (some 0) none) v) ≡ piece_tag t (map (tag_of reserved) v)
-  named-piece true none = refl
-  named-piece true (some j) = refl
-  named-piece false none = refl
-  named-piece false (some j) = refl
+  named-piece : (t : Bool) (v : Option ℕ) → piece_by (held_by (cond t (Some 0) None) v) ≡ piece_tag t (option_map (tag_of reserved) v)
+  named-piece true None = refl
+  named-piece true (Some j) = refl
+  named-piece false None = refl
+  named-piece false (Some j) = refl
 
   -- a byte of the used range is reserved as the reserved range that holds it, and else used
   pub pieces_tag : (used : MemoryRange) → used.start < used.end → Ordered 0 (ranges_in reserved) → (a : ℕ)

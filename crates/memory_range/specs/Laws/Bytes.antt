@@ -1,13 +1,13 @@
 -- Laws of single bytes: where a byte lies relative to a range, and that at most one item of a list in
 -- order holds it.
-use Rattle.std.specs.Prelude.{ℕ, suc, ◌+◌, ◌-◌, ◌≤◌, ◌<◌, ◌≡◌, refl, Bool, true, false, cond, leb, ltb, get_or}
+use Rattle.std.specs.Prelude.{ℕ, suc, ◌+◌, ◌-◌, ◌≤◌, ◌<◌, ◌≡◌, refl, Bool, true, false, cond, leb, ltb, get_or, Option, Some, None}
 use mathlib.Core.List.{List, [], ◌∷◌, ◌++◌, reverse, reverse-cons}
-use Rattle.std.proofs.Math.Option.{Option, none, some, some-injective, none-ne-some}
 use Rattle.std.proofs.Common.{arith, leb-true, leb-false, ltb-true, ltb-false}
 use Rattle.std.proofs.lemmas.Bool.{lt-leb}
 use Rattle.memory_range.specs.declared.range.MemoryRange.{MemoryRange}
 use Rattle.memory_range.specs.Range.{holds}
 use Rattle.memory_range.specs.Bytes.{holders, item_found_from, item_at, Ordered, All}
+use Rattle.std.proofs.lemmas.Option.{none-some, same_Some}
 
 -- where a byte lies relative to a range, and whether the range holds it
 pub data Place (r : MemoryRange) (a : ℕ) : Type 0 where
@@ -35,18 +35,18 @@ ordered_below a (r ∷ rs) x o h = rw (lt-leb r.start x (omega arith)) (omega (a
 
 -- how many items of a list in order hold a byte, told by the item that does, if any
 abbrev pub counted : {A : Type 0} → Option A → ℕ
-counted none = 0
-counted (some x) = 1
+counted None = 0
+counted (Some x) = 1
 
 counted-once : {A : Type 0} (u : Option A) → counted u ≤ 1
-counted-once none = omega arith
-counted-once (some x) = omega arith
+counted-once None = omega arith
+counted-once (Some x) = omega arith
 
 pub holders-cons : {A : Type 0} (a : ℕ) (r : MemoryRange) (rs : List MemoryRange) (x : ℕ) (y : A) (u : Option A)
-    → Ordered a (r ∷ rs) → holders rs x ≡ counted u → holders (r ∷ rs) x ≡ counted (cond (holds r x) (some y) u)
+    → Ordered a (r ∷ rs) → holders rs x ≡ counted u → holders (r ∷ rs) x ≡ counted (cond (holds r x) (Some y) u)
 holders-cons a r rs x y u o e = go (place r x)
   where
-    go : Place r x → holders (r ∷ rs) x ≡ counted (cond (holds r x) (some y) u)
+    go : Place r x → holders (r ∷ rs) x ≡ counted (cond (holds r x) (Some y) u)
     go (below h f) = rw f (omega arith)
     go (inside l h f) = rw f (omega (arith, ordered_below r.end rs x o.1.1 h))
     go (above h f) = rw f (omega arith)
@@ -56,15 +56,15 @@ holders_items k a [] x o = refl
 holders_items k a (r ∷ rs) x o = holders-cons a r rs x k (item_found_from (k + 1) rs x) o (holders_items (k + 1) r.end rs x o.1.1)
 
 -- the item that is told does hold the byte
-item_from : (k : ℕ) (l : List MemoryRange) (x i : ℕ) (d : MemoryRange) → item_found_from k l x ≡ some i → (k ≤ i) × (holds (get_or l (i - k) d) x ≡ true)
-item_from k [] x i d e = absurd (none-ne-some i e)
+item_from : (k : ℕ) (l : List MemoryRange) (x i : ℕ) (d : MemoryRange) → item_found_from k l x ≡ Some i → (k ≤ i) × (holds (get_or l (i - k) d) x ≡ true)
+item_from k [] x i d e = absurd (none-some i e)
 item_from k (r ∷ rs) x i d e = go (holds r x) refl e (item_from (k + 1) rs x i d)
   where
-    go : (t : Bool) → holds r x ≡ t → cond t (some k) (item_found_from (k + 1) rs x) ≡ some i
-        → (item_found_from (k + 1) rs x ≡ some i → (k + 1 ≤ i) × (holds (get_or rs (i - (k + 1)) d) x ≡ true))
+    go : (t : Bool) → holds r x ≡ t → cond t (Some k) (item_found_from (k + 1) rs x) ≡ Some i
+        → (item_found_from (k + 1) rs x ≡ Some i → (k + 1 ≤ i) × (holds (get_or rs (i - (k + 1)) d) x ≡ true))
         → (k ≤ i) × (holds (get_or (r ∷ rs) (i - k) d) x ≡ true)
     go true h f rest =
-        let same = some-injective k i f in
+        let same = same_Some k i f in
         let first : i - k ≡ 0 = omega arith in
         (omega arith, rw first h)
     go false h f rest =
@@ -72,7 +72,7 @@ item_from k (r ∷ rs) x i d e = go (holds r x) refl e (item_from (k + 1) rs x i
         let later : i - k ≡ suc (i - (k + 1)) = omega arith in
         (omega arith, rw later w.1)
 
-pub item-holds : (l : List MemoryRange) (x i : ℕ) (d : MemoryRange) → item_at l x ≡ some i → holds (get_or l i d) x ≡ true
+pub item-holds : (l : List MemoryRange) (x i : ℕ) (d : MemoryRange) → item_at l x ≡ Some i → holds (get_or l i d) x ≡ true
 item-holds l x i d e = let whole : i - 0 ≡ i = omega arith in rw whole at (item_from 0 l x i d e).1
 
 -- no byte lies in two items of a list in order

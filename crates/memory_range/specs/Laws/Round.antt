@@ -1,12 +1,10 @@
 -- Laws of rounding: a rounded number is a multiple, and of the multiples on its side the nearest one. Of
 -- two multiples of m, one that is below the other plus m is not above it: all rests on this.
-use Rattle.std.specs.Prelude.{ℕ, zero, suc, ◌+◌, ◌-◌, ◌*◌, ◌/◌, ◌%◌, ◌^◌, ◌≤◌, ◌<◌, ◌≡◌, refl}
+use Rattle.std.specs.Prelude.{ℕ, zero, suc, ◌+◌, ◌-◌, ◌*◌, ◌/◌, ◌%◌, ◌^◌, ◌≤◌, ◌<◌, ◌≡◌, refl, Option, Some, None}
 use Rattle.std.proofs.Math.Bool.{and-false}
 use Rattle.std.proofs.Common.{sym, ◌∙◌, arith, mul-zero, suc-mul, div-add-mod', mod-lt, mul-le-mul_right, lt_of_mul-lt-mul_right, lt-ltb, le-ltb, le-leb}
 use Rattle.std.proofs.Math.Decide.{dec_lt}
 use Rattle.std.proofs.lemmas.Bool.{lt-leb}
-use Rattle.memory_range.specs.declared.round.RoundedUp.{RoundedUp}
-use Rattle.memory_range.specs.declared.round.RoundedUp.TheVariants.{To, TooLarge}
 use Rattle.memory_range.specs.Round.{round_down, round_up, rounded_up}
 
 -- n is a multiple of m
@@ -70,23 +68,23 @@ module _ (m n : ℕ) (pos : 0 < m) where
       omega (arith, mod-lt n pos)
 
 -- the answer, by whether there is such a multiple and 64 bits hold it
-pub rounded_to : (m n : ℕ) → n ≤ round_up m n → round_up m n < 2 ^ 64 → rounded_up m n ≡ To (round_up m n)
+pub rounded_to : (m n : ℕ) → n ≤ round_up m n → round_up m n < 2 ^ 64 → rounded_up m n ≡ Some (round_up m n)
 unfolding rounded_up
 rounded_to m n l h = rw (le-leb n (round_up m n) l, lt-ltb (round_up m n) (2 ^ 64) h)
 
-pub rounded-over : (m n : ℕ) → 2 ^ 64 ≤ round_up m n → rounded_up m n ≡ TooLarge
+pub rounded-over : (m n : ℕ) → 2 ^ 64 ≤ round_up m n → rounded_up m n ≡ None
 unfolding rounded_up
 rounded-over m n h = rw (le-ltb (round_up m n) (2 ^ 64) h, and-false)
 
-pub rounded-none : (m n : ℕ) → round_up m n < n → rounded_up m n ≡ TooLarge
+pub rounded-none : (m n : ℕ) → round_up m n < n → rounded_up m n ≡ None
 unfolding rounded_up
 rounded-none m n h = rw (lt-leb n (round_up m n) h)
 
 -- what an answer says of a length n and every m, 0 among them: the least multiple of m that is not
 -- below n; or that n is above all multiples of m that 64 bits hold
-abbrev pub Rounded : ℕ → ℕ → RoundedUp → Type 0
-Rounded m n (To k) = Multiple m k × (n ≤ k) × (k < 2 ^ 64) × ((j : ℕ) → Multiple m j → n ≤ j → k ≤ j)
-Rounded m n TooLarge = (j : ℕ) → Multiple m j → j < 2 ^ 64 → j < n
+abbrev pub Rounded : ℕ → ℕ → Option ℕ → Type 0
+Rounded m n (Some k) = Multiple m k × (n ≤ k) × (k < 2 ^ 64) × ((j : ℕ) → Multiple m j → n ≤ j → k ≤ j)
+Rounded m n None = (j : ℕ) → Multiple m j → j < 2 ^ 64 → j < n
 
 pub rounded_least : (m n : ℕ) → Rounded m n (rounded_up m n)
 rounded_least zero zero = rw (rounded_to 0 0 (omega arith) (omega (arith, up-zero 0)), up-zero) ((0, omega arith), omega arith, omega arith, λ j p h. omega arith)
@@ -107,12 +105,12 @@ rounded_least (suc m) n = go (dec_lt (round_up (suc m) n) (2 ^ 64))
 -- For a step m that divides 2^64, as pages and 32,768 bytes do, the answer is too large exactly where n is
 -- above 2^64 - m.
 module _ (m n : ℕ) (pos : 0 < m) (divides : Multiple m (2 ^ 64)) where
-  pub rounded_within : n ≤ 2 ^ 64 - m → rounded_up m n ≡ To (round_up m n)
+  pub rounded_within : n ≤ 2 ^ 64 - m → rounded_up m n ≡ Some (round_up m n)
   rounded_within h =
       let most = multiple_le m m (2 ^ 64) (1, omega arith) divides (omega arith) in
       rounded_to m n (up_above m n pos) (omega (arith, up_near m n pos))
 
-  pub rounded-beyond : 2 ^ 64 - m < n → rounded_up m n ≡ TooLarge
+  pub rounded-beyond : 2 ^ 64 - m < n → rounded_up m n ≡ None
   rounded-beyond h =
       rounded-over m n (multiple_le m (2 ^ 64) (round_up m n) divides (up_multiple m n) (omega (arith, up_above m n pos)))
 

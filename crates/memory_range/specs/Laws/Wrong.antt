@@ -1,11 +1,9 @@
 -- Wrong answers about ranges: on a small input the definition gives another one.
-use Rattle.std.specs.Prelude.{◌-◌, min, ◌≢◌, Bool, true, false, [], ◌∷◌, length, get_or, set}
+use Rattle.std.specs.Prelude.{ℕ, ◌-◌, min, ◌≢◌, Bool, true, false, [], ◌∷◌, length, get_or, set, Option, Some, None}
 use Rattle.std.proofs.Common.{ap, true≢false, arith}
 use Rattle.std.proofs.lemmas.Bool.{false≢true}
 use Rattle.memory_range.specs.declared.range.MemoryRange.{MemoryRange}
 use Rattle.memory_range.specs.declared.range.SplitRange.{SplitRange}
-use Rattle.memory_range.specs.declared.round.RoundedUp.{RoundedUp}
-use Rattle.memory_range.specs.declared.round.RoundedUp.TheVariants.{To, TooLarge}
 use Rattle.memory_range.specs.Range.{range, length_of, contains_range, overlap_ranges, split_range_at}
 use Rattle.memory_range.specs.List.{ranges_of, tagged_of}
 use Rattle.memory_range.specs.Valid.{valid_range, all_valid_of, ascend}
@@ -68,17 +66,17 @@ padding_of_multiple = omega arith
 pub remainder_as_padding : round_up 0x1000 0x2001 - 0x2001 ≢ 1
 remainder_as_padding = omega arith
 
-abbrev is_too_large : RoundedUp → Bool
-is_too_large (To n) = false
-is_too_large TooLarge = true
+abbrev is_too_large : Option ℕ → Bool
+is_too_large (Some n) = false
+is_too_large None = true
 
 -- the largest multiple refused
-pub round_up_last : rounded_up 3 0xfffffffffffffffe ≢ TooLarge
+pub round_up_last : rounded_up 3 0xfffffffffffffffe ≢ None
 unfolding rounded_up
 round_up_last e = false≢true (ap is_too_large e)
 
 -- a wrapped length
-pub wrapped-length : rounded_up 0x1000 0xffffffffffffffff ≢ To 0
+pub wrapped-length : rounded_up 0x1000 0xffffffffffffffff ≢ Some 0
 unfolding rounded_up
 wrapped-length e = true≢false (ap is_too_large e)
 

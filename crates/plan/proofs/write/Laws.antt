@@ -1,61 +1,41 @@
--- Laws of the lists as they are written: how many lines there are, and what is left to write at a place of a list.
-use Prim.Native.Nat.{ℕ, ◌+◌, ◌≤◌, ◌<◌}
-use mathlib.Core.Path.{◌≡◌, refl, ap, ◌∙◌}
-use mathlib.Core.List.{List, [], ◌∷◌}
-use native.Mathlib.Numerals.{add-one}
+-- Laws of the lists as they are written: what an iterator gives is what is put, and the lines of each list are those that its iterator gives.
+use Prim.Native.Nat.{ℕ, ◌≤◌}
+use mathlib.Core.Path.{◌≡◌, refl, ap, sym, ◌∙◌}
+use mathlib.Core.List.{List, [], ◌∷◌, map}
 use native.Mathlib.Omega.{arith}
-use lib.ListN.{length, take, drop, get_or, drop_of_length-le, length-map}
-use lib.Seq.{drop-cons, get_or-take, length-take-le}
-use Rattle.memory_range.specs.declared.range.TaggedRange.{TaggedRange}
-use Rattle.memory_range.specs.List.{first_tagged}
-use Rattle.memory_range.specs.Range.{range}
-use Rattle.memory_range.specs.Laws.List.{length-first, next-tagged}
+use lib.ListN.{length}
+use Rattle.std.specs.Prelude.{Option}
+use Rattle.std.specs.Iterator.{AlwaysYields, Drains, HoldsAlong, Yields}
+use Rattle.std.proofs.lemmas.Iterator.{YieldsList, items_from_drains}
 use Rattle.host_params.specs.declared.MemoryVtlType.{MemoryVtlType}
 use Rattle.host_params.specs.declared.MemoryVtlType.TheVariants as vtl
 use Rattle.address_space.specs.declared.list.Vtl2Range.{Vtl2Range}
-use Rattle.address_space.specs.declared.request.AllocatedRange.{AllocatedRange}
 use Rattle.address_space.specs.List.{numbered_ranges}
 use Rattle.address_space.specs.Usage.{type_number}
-use Rattle.plan.specs.declared.line.OutputLine.TheVariants.{Ram, Pool, Map}
-use Rattle.plan.specs.Write.{ram_lines, pool_lines, type_of, typed_lines}
+use Rattle.plan.specs.declared.line.OutputLine.TheVariants.{Map}
+use Rattle.plan.specs.Line.{Room}
+use Rattle.plan.specs.Write.{type_of, typed_lines}
 
--- the RAM: k lines, the one at an index and those behind it, and none behind the last
-ram-length : (xs : List TaggedRange) → length (ram_lines xs) ≡ length xs
-ram-length xs = length-map xs _
+-- an iterator that gives a list gives no more at any time
+module _ {S A B : Type 0} (steps : S → Option A → S → Type 0) (v : A → B) where
+  few : (ys : List B) (s : S) → AlwaysYields steps v s ys → (xs : List A) (t : S) → Yields steps s xs t → length xs ≤ length ys
+  few [] s a [] t y = omega arith
+  few [] s a (x ∷ xs) t y = absurd (a x y.0 y.1)
+  few (z ∷ ys) s a [] t y = omega arith
+  few (z ∷ ys) s a (x ∷ xs) t y = omega (arith, few ys y.0 (a.1 x y.0 y.1).1 xs t y.2)
 
-module _ (k : ℕ) (ss es ts : List ℕ) (enough : (k ≤ length ss) × (k ≤ length es) × (k ≤ length ts)) where
-  pub ram-count : length (ram_lines (first_tagged k ss es ts)) ≡ k
-  ram-count = ram-length (first_tagged k ss es ts) ∙ omega (arith, length-first k ss es ts)
+pub room_for : {S A B : Type 0} {steps : S → Option A → S → Type 0} {v : A → B} {s : S} {all : List B} (at : ℕ) (b : List ℕ)
+    → Room (length all) at b → YieldsList steps v s all → HoldsAlong steps s (λ ls. Room (length ls) at b)
+room_for {steps = steps} {v = v} {s = s} {all = all} at b room y xs t run = omega (arith, room, few steps v all s y.runs xs t run)
 
-  pub ram-next : (i : ℕ) → i < k
-      → ram_lines (drop i (first_tagged k ss es ts))
-      ≡ Ram (range (get_or ss i 0) (get_or es i 0)) (get_or ts i 0) ∷ ram_lines (drop (i + 1) (first_tagged k ss es ts))
-  ram-next i h =
-      let s = length-take-le k ss (omega arith) in
-      let e = length-take-le k es (omega arith) in
-      let t = length-take-le k ts (omega arith) in
-      ap ram_lines (next-tagged (take k ss) (take k es) (take k ts) i (omega arith))
-      ∙ rw (get_or-take k ss i 0 h, get_or-take k es i 0 h, get_or-take k ts i 0 h)
+map_same : {A : Type 0} (xs : List A) → map (λ x. x) xs ≡ xs
+map_same [] = refl
+map_same (x ∷ xs) = ap (λ l. x ∷ l) (map_same xs)
 
-  pub ram-past : (i : ℕ) → k ≤ i → ram_lines (drop i (first_tagged k ss es ts)) ≡ []
-  ram-past i h = ap ram_lines (drop_of_length-le (first_tagged k ss es ts) {i = i} (omega (arith, length-first k ss es ts)))
-
--- the pool's ranges likewise
-pool-length : (xs : List AllocatedRange) → length (pool_lines xs) ≡ length xs
-pool-length xs = length-map xs _
-
-module _ (k : ℕ) (xs : List AllocatedRange) (enough : k ≤ length xs) where
-  pub pool-count : length (pool_lines (take k xs)) ≡ k
-  pool-count = pool-length (take k xs) ∙ length-take-le k xs enough
-
-  pub pool-next : (i : ℕ) (x : AllocatedRange) → i < k
-      → pool_lines (drop i (take k xs)) ≡ Pool (get_or xs i x).range (get_or xs i x).vnode ∷ pool_lines (drop (i + 1) (take k xs))
-  pool-next i x h =
-      let n = length-take-le k xs enough in
-      rw add-one (ap pool_lines (drop-cons (take k xs) i x (omega arith)) ∙ rw (get_or-take k xs i x h))
-
-  pub pool-past : (i : ℕ) → k ≤ i → pool_lines (drop i (take k xs)) ≡ []
-  pool-past i h = ap pool_lines (drop_of_length-le (take k xs) {i = i} (omega (arith, length-take-le k xs enough)))
+-- what it gave up to its end is that list
+pub drained : {S A : Type 0} {steps : S → Option A → S → Type 0} {s : S} {all : List A} (xs : List A) → Drains steps s xs
+    → YieldsList steps (λ x. x) s all → xs ≡ all
+drained xs d y = sym (map_same xs) ∙ items_from_drains xs (d.1.0, d.1.1, λ _. (d.0, d.1.2)) y
 
 -- a type is found again by its number
 type-again : (t : MemoryVtlType) → type_of (type_number t) ≡ t
@@ -70,21 +50,7 @@ type-again vtl.BootshimLogBuffer = refl
 type-again vtl.PersistedStateHeader = refl
 type-again vtl.PersistedStatePayload = refl
 
--- the range that an array's free places hold at first
-abbrev pub no_typed : Vtl2Range
-no_typed = record { range = range 0 0; vtl_type = vtl.Ram }
-
--- the joined ranges of a table, by those that are handed over
-module _ (k : ℕ) (xs : List Vtl2Range) (enough : k ≤ length xs) where
-  pub map_next : (i : ℕ) (x : Vtl2Range) → i < k
-      → typed_lines (numbered_ranges (drop i (take k xs)))
-      ≡ Map (get_or xs i x).range (get_or xs i x).vtl_type ∷ typed_lines (numbered_ranges (drop (i + 1) (take k xs)))
-  map_next i x h =
-      let n = length-take-le k xs enough in
-      rw add-one
-      (ap (λ (l : List Vtl2Range). typed_lines (numbered_ranges l)) (drop-cons (take k xs) i x (omega arith))
-      ∙ rw (get_or-take k xs i x h, type-again (get_or xs i x).vtl_type))
-
-  pub map-past : (i : ℕ) → k ≤ i → typed_lines (numbered_ranges (drop i (take k xs))) ≡ []
-  map-past i h =
-      ap (λ (l : List Vtl2Range). typed_lines (numbered_ranges l)) (drop_of_length-le (take k xs) {i = i} (omega (arith, length-take-le k xs enough)))
+-- the joined ranges of a table, as they are handed over
+pub map_handed : (xs : List Vtl2Range) → map (λ x. Map x.range x.vtl_type) xs ≡ typed_lines (numbered_ranges xs)
+map_handed [] = refl
+map_handed (x ∷ xs) = rw (type-again x.vtl_type) (ap (λ ls. Map x.range x.vtl_type ∷ ls) (map_handed xs))

@@ -1,19 +1,17 @@
 -- A plan has few lines, so that the output has room for them: at most 64 of the RAM and 64 of the pool, as many of requests as a text has
 -- room for, and at most 256 of the table.
-use Rattle.std.specs.Prelude.{ℕ, suc, ◌+◌, ◌≤◌, min, ◌≡◌, refl, Bool, cond, List, [], ◌∷◌, ◌++◌, ltb, leb, eqb}
+use Rattle.std.specs.Prelude.{ℕ, suc, ◌+◌, ◌≤◌, min, ◌≡◌, refl, Bool, cond, List, [], ◌∷◌, ◌++◌, ltb, leb, Option, Some, None}
 use Rattle.std.proofs.Math.Path.{ap}
 use Rattle.std.proofs.Common.{◌∙◌, arith, ltb-false, length-append}
 use Rattle.std.proofs.Math.Bool.{true, false}
-use Rattle.std.proofs.Math.Option.{Option, none, some}
 use Rattle.std.proofs.Math.ListN.{length}
+use Rattle.refusal.specs.declared.Refusal.{Refusal}
 use Rattle.refusal.specs.Rows.{unless}
-use Rattle.refusal.specs.Number.{no_fit, table_full, pool_too_large, pool_split}
+use Rattle.refusal.specs.Number.{table_full, pool_too_large, pool_split}
 use Rattle.memory_range.specs.declared.range.TaggedRange.{TaggedRange}
 use Rattle.range_lists.specs.Laws.Merge.{merge-count}
 use Rattle.host_params.specs.declared.AllocationPolicy.{AllocationPolicy}
 use Rattle.host_params.specs.declared.AllocationType.{AllocationType}
-use Rattle.host_params.specs.declared.OptionU32.{OptionU32}
-use Rattle.host_params.specs.declared.OptionU64.{OptionU64}
 use Rattle.boot_ram.specs.Held.{bytes_of}
 use Rattle.vtl2_ram.specs.Laws.Select.{chosen_in_order}
 use Rattle.address_space.specs.declared.request.AllocatedRange.{AllocatedRange}
@@ -33,7 +31,7 @@ use Rattle.plan_record.specs.declared.record.Get.{Get}
 use Rattle.plan_text.specs.Text.{text_size}
 use Rattle.plan_input.specs.Input.{Input}
 use Rattle.private_pool.specs.Piece.{table_nodes, PoolPiece, piece, split_pieces}
-use Rattle.private_pool.specs.Pool.{Placement, placed, piece_on, in_front, after_piece, place_pieces, split_bad, split_placed, whole_tried, whole_or, pages_bound, pool_placed}
+use Rattle.private_pool.specs.Pool.{Placement, placed, piece_on, in_front, after_piece, place_pieces, split_bad, split_placed, whole_tried, whole_or, pages_bound, is_no_fit, pool_placed}
 use Rattle.private_pool.specs.Pool as placement
 use Rattle.private_pool.specs.Laws.Piece.{nodes_of, pieces-nodes}
 use Rattle.plan.specs.declared.line.OutputLine.{OutputLine}
@@ -84,7 +82,7 @@ placed_few x es = go (ltb max_address_ranges (length es)) refl
     go true e = tt
     go false e = ltb-false max_address_ranges (length es) e
 
-module _ (asked : OptionU32) (len : ℕ) (type : AllocationType) (policy : AllocationPolicy) (alignment : OptionU64) (es : List AddressRange) where
+module _ (asked : Option ℕ) (len : ℕ) (type : AllocationType) (policy : AllocationPolicy) (alignment : Option ℕ) (es : List AddressRange) where
   search_few : (s : Search AddressRange) → Few (placed_from len type policy alignment s)
   search_few nothing = tt
   search_few (found before e after) =
@@ -96,9 +94,9 @@ module _ (asked : OptionU32) (len : ℕ) (type : AllocationType) (policy : Alloc
   unfolding allocated
   allocated_few = search_few (searched policy (fits_in asked len alignment) es)
 
-unless_few : (u : Option ℕ) (o : Outcome) → Few o → Few (unless refused u o)
-unless_few (some n) o h = tt
-unless_few none o h = h
+unless_few : (u : Option Refusal) (o : Outcome) → Few o → Few (unless refused u o)
+unless_few (Some n) o h = tt
+unless_few None o h = h
 
 get_few : (g : Get) (es : List AddressRange) → Few (outcome_on g es)
 unfolding requested
@@ -160,7 +158,7 @@ module _ (k : ℕ) (es : List AddressRange) (few : length es ≤ max_address_ran
   -- a whole pool has one
   whole_few : (o : Outcome) (p : Placement) → 1 ≤ k → Few o → FewPlaced k p → FewPlaced k (whole_or o p)
   whole_few (handed x es') p one f h = (one, f)
-  whole_few (request.refused n) p one f h = go (eqb n no_fit)
+  whole_few (request.refused n) p one f h = go (is_no_fit n)
     where
       go : (t : Bool) → FewPlaced k (cond t p (placement.refused n))
       go true = h
@@ -178,8 +176,8 @@ module _ (k : ℕ) (es : List AddressRange) (few : length es ≤ max_address_ran
 
   -- and where there is no pool, none
   placed_for_few : (wanted : Option ℕ) (split : Bool) → 1 ≤ k → FewPlaced k (placed_for wanted split es)
-  placed_for_few none split one = (omega arith, few)
-  placed_for_few (some pages) split one = pool_few pages split one
+  placed_for_few None split one = (omega arith, few)
+  placed_for_few (Some pages) split one = pool_few pages split one
 
 -- the lines of a plan by its parts
 plan-count : (ram : List TaggedRange) (pool : List AllocatedRange) (gs : List Get) (es : List AddressRange) → length es ≤ max_address_ranges

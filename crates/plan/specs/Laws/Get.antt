@@ -1,11 +1,8 @@
 -- Laws of the requests of a text: how many it can have, and that 64 bits hold their alignments. The line of a request is the one
 -- that spells it, so its bytes can be counted.
-use Rattle.std.specs.Prelude.{ℕ, ◌+◌, ◌*◌, ◌≤◌, ◌≡◌, refl, List, [], ◌∷◌, length, drop}
+use Rattle.std.specs.Prelude.{ℕ, ◌+◌, ◌*◌, ◌≤◌, ◌≡◌, refl, List, [], ◌∷◌, length, drop, Option, Some, None}
 use Rattle.std.proofs.Common.{sym, ◌∙◌, arith, length-append}
-use Rattle.std.proofs.Math.Option.{Option, none, some, none-ne-some}
 use Rattle.memory_range.specs.Bytes.{All}
-use Rattle.host_params.specs.declared.OptionU64.{OptionU64}
-use Rattle.host_params.specs.declared.OptionU64.TheVariants as number
 use Rattle.memory_claims.specs.Claim.{Of64Bits}
 use Rattle.plan_fields.specs.Cut.{tab, newline, join_with}
 use Rattle.plan_fields.specs.Number.{number_of}
@@ -23,10 +20,11 @@ use Rattle.plan_text.specs.Laws.Spelling.{text_spelled}
 use Rattle.line_claims.specs.Spelling.{policy_word, kind_word, optional_for, optional_node_for, fields_for, line_for, SizedOption, Sized}
 use Rattle.line_claims.proofs.Laws.Field.{policy-read, kind-read, optional-read, optional-node-read}
 use Rattle.plan.specs.Planner.{shortest_get}
+use Rattle.std.proofs.lemmas.Option.{none-some}
 
 -- a field that is read has a byte
-filled : {A : Type 0} (read : List ℕ → Option A) (f : List ℕ) {x : A} → read [] ≡ none → read f ≡ some x → 1 ≤ length f
-filled read [] {x} n e = absurd (none-ne-some x (sym n ∙ e))
+filled : {A : Type 0} (read : List ℕ → Option A) (f : List ℕ) {x : A} → read [] ≡ None → read f ≡ Some x → 1 ≤ length f
+filled read [] {x} n e = absurd (none-some x (sym n ∙ e))
 filled read (b ∷ bs) n e = omega arith
 
 -- a word and fields that each have a byte have, with the byte between each two, at least two bytes more for each field
@@ -51,9 +49,9 @@ get_line g h =
       ),
     )
 
-of_bits : (a : OptionU64) → SizedOption a → Of64Bits a
-of_bits (number.Some n) h = h
-of_bits number.None h = tt
+of_bits : (a : Option ℕ) → SizedOption a → Of64Bits a
+of_bits (Some n) h = h
+of_bits None h = tt
 
 -- of requests that a text of so many bytes has: each takes the bytes of the shortest, and has an alignment of 64 bits
 abbrev Read : List Get → ℕ → Type 0
@@ -84,12 +82,12 @@ records-read : (rs : List Record) → All Sized rs → Read (gets rs) (length (t
 records-read [] h = (omega arith, tt)
 records-read (r ∷ rs) h = record-read r rs h.0 (records-read rs h.1)
 
-text-read : (text : List ℕ) (rs : List Record) → records_of text ≡ some rs → Read (gets rs) (length text)
+text-read : (text : List ℕ) (rs : List Record) → records_of text ≡ Some rs → Read (gets rs) (length text)
 text-read text rs e = let s = text_spelled text rs e in rw s.0 (records-read rs s.1)
 
 -- the requests of a text: there are no more of them than its bytes have room for, and 64 bits hold their alignments
-pub gets_few : (text : List ℕ) (rs : List Record) → records_of text ≡ some rs → shortest_get * length (gets rs) ≤ length text
+pub gets_few : (text : List ℕ) (rs : List Record) → records_of text ≡ Some rs → shortest_get * length (gets rs) ≤ length text
 gets_few text rs e = (text-read text rs e).0
 
-pub gets_bits : (text : List ℕ) (rs : List Record) → records_of text ≡ some rs → All (λ g. Of64Bits g.alignment) (gets rs)
+pub gets_bits : (text : List ℕ) (rs : List Record) → records_of text ≡ Some rs → All (λ g. Of64Bits g.alignment) (gets rs)
 gets_bits text rs e = (text-read text rs e).1

@@ -1,8 +1,6 @@
 -- What a text whose plan has lines shows: that nothing refused it, and what each step came to.
-use Rattle.std.specs.Prelude.{ℕ, ◌≤◌, ◌≡◌, List, length}
+use Rattle.std.specs.Prelude.{ℕ, ◌≤◌, ◌≡◌, List, length, Option, Some, None, Result, Ok, Err}
 use Rattle.std.proofs.Math.Path.{refl}
-use Rattle.std.proofs.Math.Option.{Option, none, some}
-use Rattle.std.proofs.Common.{arith}
 use Rattle.refusal.specs.Rows.{unless}
 use Rattle.memory_range.specs.declared.range.TaggedRange.{TaggedRange}
 use Rattle.boot_ram.specs.Held.{bytes_of}
@@ -14,8 +12,6 @@ use Rattle.address_space.specs.declared.table.AddressRange.{AddressRange}
 use Rattle.memory.specs.Build.{Build, build, built}
 use Rattle.memory.specs.Build as build-of
 use Rattle.plan_record.specs.declared.record.Record.{Record}
-use Rattle.plan_text.specs.declared.text.TextCheck.{TextCheck}
-use Rattle.plan_text.specs.declared.text.TextCheck.TheVariants as text-check
 use Rattle.plan_text.specs.Plan.{gets}
 use Rattle.plan_text.specs.Text.{text_check, records_of, text_size}
 use Rattle.plan_text.specs.Laws.Text.{accepted, accepted_size}
@@ -25,12 +21,13 @@ use Rattle.private_pool.specs.Pool as placement
 use Rattle.plan.specs.declared.line.OutputLine.{OutputLine}
 use Rattle.plan.specs.Planner.{Plan, refused, lines, plan_lines, after_pool, after_build, after_choice, ranges_refusal, selected_plan, records_plan, records_given, checked_plan, plan_of}
 use Rattle.plan.specs.Pool.{pages_wanted, placed_for}
+use Rattle.refusal.specs.declared.Refusal.{Refusal}
 
 -- the records of the text are read; the RAM is chosen, the table built, and the pool placed, if there is one; and the lines are of these
 pub record Made (text : List ℕ) (ls : List OutputLine) : Type 0 where
   pub size : length text ≤ text_size
   pub records : List Record
-  pub read : records_of text ≡ some records
+  pub read : records_of text ≡ Some records
   pub input : Input
   pub given : input ≡ input_of records
   pub ram : List TaggedRange
@@ -44,15 +41,15 @@ pub record Made (text : List ℕ) (ls : List OutputLine) : Type 0 where
   pub as-lines : ls ≡ plan_lines ram pool input.gets left
 
 -- a refusal is no lines
-not-lines : {n : ℕ} {ls : List OutputLine} → ◌≡◌ {A = Plan} (refused n) (lines ls) → ⊥
-not-lines e = let z : ◌≡◌ {A = ℕ} 0 1 = cc in omega arith
+not-lines : {n : Refusal} {ls : List OutputLine} → ◌≡◌ {A = Plan} (refused n) (lines ls) → ⊥
+not-lines e = cc
 
-unless-lines : (u : Option ℕ) (p : Plan) {ls : List OutputLine} → unless refused u p ≡ lines ls → p ≡ lines ls
-unless-lines none p e = e
-unless-lines (some n) p e = absurd (not-lines e)
+unless-lines : (u : Option Refusal) (p : Plan) {ls : List OutputLine} → unless refused u p ≡ lines ls → p ≡ lines ls
+unless-lines None p e = e
+unless-lines (Some n) p e = absurd (not-lines e)
 
 -- step by step, from the last
-module _ (text : List ℕ) (ls : List OutputLine) (rs : List Record) (read : records_of text ≡ some rs) (size : length text ≤ text_size) where
+module _ (text : List ℕ) (ls : List OutputLine) (rs : List Record) (read : records_of text ≡ Some rs) (size : length text ≤ text_size) where
   abbrev i : Input
   i = input_of rs
 
@@ -98,9 +95,9 @@ pub plan-made : (text : List ℕ) (ls : List OutputLine) → plan_of text ≡ li
 unfolding plan_of
 plan-made text ls h = go (text_check text) refl h
   where
-    go : (t : TextCheck) → text_check text ≡ t → checked_plan t (records_given (records_of text)) ≡ lines ls → Made text ls
-    go (text-check.Refused n) e p = absurd (not-lines p)
-    go text-check.Accepted e p =
+    go : (t : Result (Unit {0}) Refusal) → text_check text ≡ t → checked_plan t (records_given (records_of text)) ≡ lines ls → Made text ls
+    go (Err n) e p = absurd (not-lines p)
+    go (Ok done) e p =
         let a = accepted text e in
         from-records text ls a.0 a.1 (accepted_size text e) (rw a.1 at p)
 

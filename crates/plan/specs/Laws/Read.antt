@@ -1,21 +1,19 @@
 -- Laws of an accepted text: what the plan is by what is read of it, with lists that are cut to the room that they have.
-use Rattle.std.specs.Prelude.{ℕ, ◌≤◌, min, ◌≡◌, refl, Bool, true, false, ◌&&◌, not, List, [], ◌∷◌, length, take, replicate}
+use Rattle.std.specs.Prelude.{ℕ, ◌≤◌, min, ◌≡◌, refl, Bool, true, false, ◌&&◌, not, List, [], ◌∷◌, length, take, replicate, Result, Ok, Err}
 use Rattle.std.proofs.Common.{ap, sym, ◌∙◌, arith}
 use Rattle.std.proofs.Math.Bool.{and-eq-true_iff}
 use Rattle.std.proofs.lemmas.List.{length-replicate}
 use Rattle.std.proofs.lemmas.List.Edits.{sets}
-use Rattle.std.proofs.Math.Seq.{length-sets}
 use Rattle.refusal.specs.Number.{range_invalid, ranges_not_ascending}
 use Rattle.refusal.specs.Rows.{refused_if, downward, unless}
 use Rattle.memory_range.specs.declared.range.MemoryRange.{MemoryRange}
-use Rattle.memory_range.specs.List.{ranges_of}
 use Rattle.memory_range.specs.Valid.{valid_range, all_valid_of, ascend}
 use Rattle.host_params.specs.declared.IsolationType.{IsolationType}
 use Rattle.host_params.specs.declared.MemoryEntry.{MemoryEntry}
 use Rattle.vtl2_ram.specs.declared.ram.Vtl2Ram.{Vtl2Ram}
 use Rattle.vtl2_ram.specs.Ram.{ram_as}
 use Rattle.vtl2_ram.specs.Choice.{Choice, refused, chosen, entries_of}
-use Rattle.host_map.specs.Map.{map_of, map_ranges, map_starts_of, map_ends_of, map_nodes_of, map_protectable_of}
+use Rattle.host_map.specs.Map.{map_ranges}
 use Rattle.vtl2_ram.specs.Select.{choice}
 use Rattle.vtl2_ram.specs.Laws.Select.{chosen_in_order}
 use Rattle.boot_ram.specs.Verdict.{max_chosen}
@@ -23,13 +21,10 @@ use Rattle.memory.specs.declared.builder.AddressSpaceManagerBuilder.{AddressSpac
 use Rattle.memory.specs.Builder.{singles_valid}
 use Rattle.plan_record.specs.declared.record.Get.{Get}
 use Rattle.plan_record.specs.declared.record.Pool.{Pool}
-use Rattle.plan_text.specs.declared.text.TextCheck.{TextCheck}
-use Rattle.plan_text.specs.declared.text.TextCheck.TheVariants.{Accepted, Refused}
 use Rattle.plan_text.specs.Order.{in_order_of}
 use Rattle.plan_text.specs.Text.{text_size, text_check, check_from, records_from}
 use Rattle.plan_text.specs.Laws.Text.{accepted, short_from}
 use Rattle.plan_input.specs.Record.{records_at, behind_one}
-use Rattle.plan_input.specs.Range.{starts_in, ends_in}
 use Rattle.plan_input.specs.Room.{map_room, import_room, config_room, pool_room}
 use Rattle.plan_input.specs.Once.{pool_first}
 use Rattle.plan_input.specs.declared.selection.SelectionRead.{SelectionRead}
@@ -38,9 +33,10 @@ use Rattle.plan_input.specs.Build.{BuildIn, build_in}
 use Rattle.plan_input.specs.Input.{input_read, gets_first}
 use Rattle.plan_input.specs.Laws.Record.{records-accepted}
 use Rattle.plan_input.specs.Laws.Input.{input-read, valid-read}
-use Rattle.plan_input.specs.Laws.Room.{stored-ranges, stored-map, choice_room, build_room}
-use Rattle.plan.specs.Planner.{plan_of, records_plan, ranges_refusal, selected_plan, after_build, after_choice, refused as plan_refused, choice_of, Selected}
+use Rattle.plan_input.specs.Laws.Room.{stored-list, choice_room, build_room}
+use Rattle.plan.specs.Planner.{plan_of, records_plan, ranges_refusal, selected_plan, after_build, after_choice, refused as plan_refused, choice_of}
 use Rattle.plan.specs.Planner as plan
+use Rattle.refusal.specs.declared.Refusal.{Refusal}
 
 -- a test that is turned round
 pub not-true : (t : Bool) → not t ≡ true → t ≡ false
@@ -51,58 +47,10 @@ pub not-false : (t : Bool) → not t ≡ false → t ≡ true
 not-false true e = refl
 not-false false e = sym e
 
--- ranges that are stored in arrays of so many places, and the places that are lent
-pub record Lent (room : ℕ) (rs : List MemoryRange) (n : ℕ) (ss es : List ℕ) : Type 0 where
-  pub starts : n ≤ length ss
-  pub ends : n ≤ length es
-  pub ranges : ranges_of (take n ss) (take n es) ≡ take room rs
-
--- places that hold 0 at first
-abbrev zeros : ℕ → List ℕ
-zeros room = replicate room 0
-
-pub ranges-lent : (room : ℕ) (rs : List MemoryRange) {n count : ℕ} {ss es : List ℕ} → ss ≡ sets (zeros room) 0 (starts_in rs)
-    → es ≡ sets (zeros room) 0 (ends_in rs) → count ≡ length rs → n ≡ min count room → Lent room rs n ss es
-ranges-lent room rs {n} {count} {ss} {es} s e c h =
-    let few : n ≤ room = omega (arith, h) in
-    let z : length (zeros room) ≡ room = length-replicate {A = ℕ} room 0 in
-    let hs : length ss ≡ room = ap length s ∙ length-sets (zeros room) 0 (starts_in rs) ∙ z in
-    let he : length es ≡ room = ap length e ∙ length-sets (zeros room) 0 (ends_in rs) ∙ z in
-    record {
-      starts = omega arith;
-      ends = omega arith;
-      ranges = rw (s, e) (stored-ranges room rs (zeros room) (zeros room) n z z (h ∙ ap (λ (k : ℕ). min k room) c));
-    }
-
--- the same of a map in four arrays
-pub record MapLent (m : List MemoryEntry) (n : ℕ) (ss es ns : List ℕ) (ls : List Bool) : Type 0 where
-  pub starts : n ≤ length ss
-  pub ends : n ≤ length es
-  pub nodes : n ≤ length ns
-  pub protectable : n ≤ length ls
-  pub map : map_of (take n ss) (take n es) (take n ns) (take n ls) ≡ take map_room m
-
-pub map-lent : (m : List MemoryEntry) {n count : ℕ} {ss es ns : List ℕ} {ls : List Bool} → ss ≡ sets (zeros map_room) 0 (map_starts_of m)
-    → es ≡ sets (zeros map_room) 0 (map_ends_of m) → ns ≡ sets (zeros map_room) 0 (map_nodes_of m)
-    → ls ≡ sets (replicate map_room false) 0 (map_protectable_of m) → count ≡ length m → n ≡ min count map_room → MapLent m n ss es ns ls
-map-lent m {n} {count} {ss} {es} {ns} {ls} s e t l c h =
-    let few : n ≤ map_room = omega (arith, h) in
-    let z : length (zeros map_room) ≡ map_room = length-replicate {A = ℕ} map_room 0 in
-    let y : length (replicate map_room false) ≡ map_room = length-replicate {A = Bool} map_room false in
-    let hs : length ss ≡ map_room = ap length s ∙ length-sets (zeros map_room) 0 (map_starts_of m) ∙ z in
-    let he : length es ≡ map_room = ap length e ∙ length-sets (zeros map_room) 0 (map_ends_of m) ∙ z in
-    let hn : length ns ≡ map_room = ap length t ∙ length-sets (zeros map_room) 0 (map_nodes_of m) ∙ z in
-    let hl : length ls ≡ map_room = ap length l ∙ length-sets (replicate map_room false) 0 (map_protectable_of m) ∙ y in
-    record {
-      starts = omega arith;
-      ends = omega arith;
-      nodes = omega arith;
-      protectable = omega arith;
-      map =
-          rw (s, e, t, l)
-          (stored-map map_room m (zeros map_room) (zeros map_room) (zeros map_room) (replicate map_room false) n z z z y
-          (h ∙ ap (λ (k : ℕ). min k map_room) c));
-    }
+-- a list that is stored in an array of so many places: what is lent of it is as much of it as there is room for
+pub lent : {A : Type 0} (room : ℕ) (xs : List A) (d : A) {n : ℕ} {array : List A} → array ≡ sets (replicate room d) 0 xs
+    → n ≡ min (length xs) room → take n array ≡ take room xs
+lent room xs d {n} e h = rw e (stored-list room xs (replicate room d) n (length-replicate room d) h)
 
 -- a selection comes to at most 64 entries
 pub choice_few : (c : Choice) → ((xs : List _) → c ≡ chosen xs → length xs ≤ max_chosen) → length (entries_of c) ≤ max_chosen
@@ -117,17 +65,17 @@ cut_lists isolation pool b gets cs ps (refused n) v w = refl
 cut_lists isolation pool b gets cs ps (chosen ram) v w = ap (after_build isolation pool ram gets) (sym (build_room b ram cs ps v w))
 
 -- a text that rows 3, 1 or 2 refuse
-pub text_refused : (text : List ℕ) {n : ℕ} → text_check text ≡ Refused n → plan_of text ≡ plan.refused n
+pub text_refused : (text : List ℕ) {n : Refusal} → text_check text ≡ Err n → plan_of text ≡ plan.refused n
 unfolding plan_of
 text_refused text e = rw e
 
 -- a text that is not too long is judged by what is left of it behind what is read
-pub text_checked : (text : List ℕ) (at k : ℕ) {s : SelectionIn} {read : SelectionRead} {r : TextCheck} → length text ≤ text_size
+pub text_checked : (text : List ℕ) (at k : ℕ) {s : SelectionIn} {read : SelectionRead} {r : Result (Unit {0}) Refusal} → length text ≤ text_size
     → SelectionHeld text s read → check_from k (records_from at text) ≡ check_from read.order (records_from read.next text)
     → r ≡ check_from k (records_from at text) → text_check text ≡ r
 text_checked text at k h s e f = short_from text h ∙ sym s.order ∙ sym e ∙ sym f
 
-module _ (text : List ℕ) (a : text_check text ≡ Accepted) where
+module _ (text : List ℕ) (a : text_check text ≡ Ok tt) where
   abbrev pub selection : SelectionIn
   selection = selection_in (records_at text 0)
 
@@ -162,7 +110,7 @@ module _ (text : List ℕ) (a : text_check text ≡ Accepted) where
   text_invalid e = plan-rows ∙ rw e
 
   -- what selection comes to, by what the code holds
-  pub selection-same : (read : SelectionRead) {m : List MemoryEntry} {imports : List MemoryRange} {ram : Vtl2Ram}
+  pub selection-same : (read : SelectionRead) {m : List MemoryEntry} {imports : List MemoryRange} {ram : Result Vtl2Ram Refusal}
       → SelectionHeld text selection read → m ≡ take map_room selection.map → imports ≡ take import_room selection.imports
       → ram
       ≡ ram_as
@@ -200,9 +148,10 @@ module _ (text : List ℕ) (a : text_check text ≡ Accepted) where
         plan-rows ∙ rw (v, e, ← chosen)
         (cut_lists s.shape.isolation (pool_first b.rest) b.builder (gets_first (behind_one b.rest)) b.configs b.pools (choice_of s) given.0 given.1)
 
+    -- the same by what the code holds
     pub text-selected : lists_ascend ≡ true → {isolation : IsolationType} {pool : Pool} {builder : AddressSpaceManagerBuilder} {gets : List Get}
-        {configs pools : List MemoryRange} {ram : Vtl2Ram}
+        {configs pools : List MemoryRange}
         → isolation ≡ selection.shape.isolation → pool ≡ pool_first building.rest → builder ≡ building.builder
         → gets ≡ gets_first (behind_one building.rest) → configs ≡ take config_room building.configs → pools ≡ take pool_room building.pools
-        → ram ≡ ram_as (choice_of selection) → Selected text isolation pool builder gets configs pools ram
-    text-selected e i p b g c q r = rw (i, p, b, g, c, q) (record { selection = choice_of selection; held = r; few = selected_few; plan = text_planned e })
+        → plan_of text ≡ after_choice isolation pool builder gets configs pools (choice_of selection)
+    text-selected e i p b g c q = rw (i, p, b, g, c, q) (text_planned e)

@@ -1,14 +1,13 @@
 -- Wrong answers of the plan, each refuted (docs/PROVED.md).
-use Rattle.std.specs.Prelude.{ℕ, ◌+◌, ◌*◌, false, List, [], ◌∷◌, map, ◌≢◌, eqb, length, get_or}
+use Rattle.std.specs.Prelude.{ℕ, ◌+◌, ◌*◌, false, List, [], ◌∷◌, map, ◌≢◌, eqb, length, get_or, None}
 use Rattle.std.proofs.Common.{ap, true≢false, arith, lt-ltb}
+use Rattle.refusal.specs.declared.Refusal.{Refusal}
 use Rattle.memory_range.specs.Range.{range, overlap_ranges}
 use Rattle.range_lists.specs.Walk.{walk_from}
 use Rattle.host_params.specs.declared.AllocationPolicy.TheVariants.{LowMemory}
 use Rattle.host_params.specs.declared.AllocationType.TheVariants.{SidecarNode}
 use Rattle.host_params.specs.declared.IsolationType.TheVariants as isolation
 use Rattle.host_params.specs.declared.MemoryAllocationMode.TheVariants.{Host}
-use Rattle.host_params.specs.declared.OptionU32.TheVariants as node
-use Rattle.host_params.specs.declared.OptionU64.TheVariants as number
 use Rattle.host_params.specs.declared.Vtl2GpaPoolConfig.TheVariants.{Off}
 use Rattle.vtl2_ram.specs.Host.{host_choice}
 use Rattle.vtl2_ram.specs.Rows.{rows_known}
@@ -53,11 +52,11 @@ first_end (lines ls) = get_or (map end_of ls) 0 0
 abbrev pub page : Get
 page =
     record {
-      required_vnode = node.None;
+      required_vnode = None;
       len = 0x1000;
       allocation_policy = LowMemory;
       allocation_type = SidecarNode;
-      alignment = number.None;
+      alignment = None;
     }
 
 -- a request answered on the table that the first one met
@@ -69,11 +68,11 @@ first-range-again e = true≢false (ap (λ (ls : List OutputLine). eqb (get_or (
 -- the records of a text: the host chooses, the file ends at an address, and there is no pool and no request
 abbrev pub file_to : ℕ → List Record
 file_to end =
-    record_of.Shape (record { mode = Host; isolation = isolation.None; memory_size = number.None }) ∷
+    record_of.Shape (record { mode = Host; isolation = isolation.None; memory_size = None }) ∷
     record_of.File (range 0x200000 end) ∷
     record_of.Used (range 0x200000 0x202000) ∷
     record_of.State (range 0x200000 0x202000) ∷
-    record_of.Pool (record { config = Off; host_pages = number.None; processors = 1; split = false }) ∷ []
+    record_of.Pool (record { config = Off; host_pages = None; processors = 1; split = false }) ∷ []
 
 -- one plan for every text
 pub one_stock_plan : records_plan (file_to 0x210000) ≢ records_plan (file_to 0x220000)
@@ -81,7 +80,7 @@ unfolding records_plan ranges_refusal input_of choice rows_known host_choice bui
 one_stock_plan e = true≢false (ap (λ (p : Plan). eqb (first_end p) 0x210000) e)
 
 -- an output that a refused plan has written to: the byte `r`, with which plans begin
-pub refused_plan_writes : (n : ℕ) → output_as (refused n) (0 ∷ []) ≢ 114 ∷ []
+pub refused_plan_writes : (n : Refusal) → output_as (refused n) (0 ∷ []) ≢ 114 ∷ []
 refused_plan_writes n e = true≢false (ap (λ (bytes : List ℕ). eqb (get_or bytes 0 0) 0) e)
 
 -- a short output written: the same byte

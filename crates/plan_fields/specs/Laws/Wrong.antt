@@ -1,12 +1,12 @@
 -- Wrong answers about fields: on a few bytes the definition gives another one.
-use Rattle.std.specs.Prelude.{ℕ, ◌+◌, ◌≡◌, refl, ◌≢◌, true, false, List, length, drop}
+use Rattle.std.specs.Prelude.{ℕ, ◌+◌, ◌≡◌, refl, ◌≢◌, true, false, List, length, drop, Some}
 use Rattle.std.proofs.Common.{ap, sym, ◌∙◌, arith}
 use Rattle.std.proofs.lemmas.Bool.{false≢true}
-use Rattle.std.proofs.Math.Option.{some, none-ne-some}
 use Rattle.plan_fields.specs.Cut.{tab, split_on, first_part}
 use Rattle.plan_fields.specs.Number.{number_of}
 use Rattle.plan_fields.specs.Word.{ascii, same_bytes}
 use Rattle.plan_fields.specs.Laws.Word.{same_refl}
+use Rattle.std.proofs.lemmas.Option.{none-some}
 
 -- bytes that differ
 pub differ : {a b : List ℕ} → same_bytes a b ≡ false → a ≢ b
@@ -33,9 +33,9 @@ pub longer-field-taken : same_bytes (ascii "pools") (ascii "pool") ≢ true
 longer-field-taken = false≢true
 
 -- 17 digits pass
-pub seventeen_digits : (n : ℕ) → number_of (ascii "10000000000000000") ≢ some n
-seventeen_digits n = none-ne-some n
+pub seventeen_digits : (n : ℕ) → number_of (ascii "10000000000000000") ≢ Some n
+seventeen_digits n = none-some n
 
 -- an upper-case digit passes
-pub upper_case_digit : (n : ℕ) → number_of (ascii "A") ≢ some n
-upper_case_digit n = none-ne-some n
+pub upper_case_digit : (n : ℕ) → number_of (ascii "A") ≢ Some n
+upper_case_digit n = none-some n

@@ -1,40 +1,21 @@
--- A turn of the loops that read a list, by the first of the records left.
-use Prim.Native.Nat.{ℕ, ◌+◌, ◌≤◌}
-use mathlib.Core.Path.{◌≡◌, refl}
-use mathlib.Core.Bool.{Bool, true, false, cond}
+-- Rows 4 and 5 of a list of items are those of their ranges.
+use mathlib.Core.Path.{◌≡◌, refl, ap, ◌∙◌}
 use mathlib.Core.List.{List, [], ◌∷◌, map}
-use native.Mathlib.Omega.{arith}
-use lib.ListN.{length}
-use Rattle.plan_record.specs.declared.record.Record.{Record}
-use Rattle.plan_input.specs.declared.word.OptionRecord.TheVariants.{Some, None}
-use Rattle.plan_input.specs.Word.{of_word, word_first, behind_word, words_first, behind_words}
+use Rattle.std.proofs.lemmas.List.{map-id}
+use Rattle.memory_range.specs.declared.range.MemoryRange.{MemoryRange}
+use Rattle.host_params.specs.declared.MemoryEntry.{MemoryEntry}
+use Rattle.host_map.specs.declared.rows.RangeCheck.{RangeCheck}
+use Rattle.host_map.specs.Map.{map_ranges}
+use Rattle.host_map.specs.Rows.{check_start, checked_all}
 
-module _ (k : ℕ) where
-  -- the first record is of the list
-  pub words-next : (rs : List Record) {r : Record} {rest : List Record} → word_first k rs ≡ Some r → rest ≡ behind_word k rs
-      → (words_first k rs ≡ r ∷ words_first k rest) × (behind_words k rs ≡ behind_words k rest) × (length rs ≡ length rest + 1)
-  words-next [] e f = absurd (let z : ◌≡◌ {A = ℕ} 0 1 = cc in omega arith)
-  words-next (r ∷ rs) {r = x} {rest} e f = go (of_word k r) refl
-    where
-      go : (t : Bool) → of_word k r ≡ t
-          → (words_first k (r ∷ rs) ≡ x ∷ words_first k rest) × (behind_words k (r ∷ rs) ≡ behind_words k rest) × (length (r ∷ rs) ≡ length rest + 1)
-      go true t = let g = rw t at e in let h = rw t at f in rw (t, h) (cc, refl, omega arith)
-      go false t = let g = rw t at e in absurd (let z : ◌≡◌ {A = ℕ} 0 1 = cc in omega arith)
+entry_ranges : (m : List MemoryEntry) → map (λ e. e.range) m ≡ map_ranges m
+entry_ranges [] = refl
+entry_ranges (e ∷ m) = ap (λ l. e.range ∷ l) (entry_ranges m)
 
-  -- no record of the list is left
-  pub words-none : (rs : List Record) → word_first k rs ≡ None → (words_first k rs ≡ []) × (behind_words k rs ≡ rs)
-  words-none [] e = (refl, refl)
-  words-none (r ∷ rs) e = go (of_word k r) refl
-    where
-      go : (t : Bool) → of_word k r ≡ t → (words_first k (r ∷ rs) ≡ []) × (behind_words k (r ∷ rs) ≡ r ∷ rs)
-      go true t = let g = rw t at e in absurd (let z : ◌≡◌ {A = ℕ} 0 1 = cc in omega arith)
-      go false t = rw t (refl, refl)
+pub check_entries : (m : List MemoryEntry) {k : RangeCheck} → k ≡ checked_all check_start (map (λ e. e.range) m)
+    → k ≡ checked_all check_start (map_ranges m)
+check_entries m h = h ∙ ap (checked_all check_start) (entry_ranges m)
 
-  -- a record for each value
-  pub words_few : {A : Type 0} (f : Record → A) (rs : List Record) → length (map f (words_first k rs)) ≤ length rs
-  words_few f [] = omega arith
-  words_few f (r ∷ rs) = go (of_word k r) (words_few f rs)
-    where
-      go : (t : Bool) → length (map f (words_first k rs)) ≤ length rs → length (map f (cond t (r ∷ words_first k rs) [])) ≤ length (r ∷ rs)
-      go true i = omega arith
-      go false i = omega arith
+pub check_alone : (rs : List MemoryRange) {k : RangeCheck} → k ≡ checked_all check_start (map (λ r. r) rs)
+    → k ≡ checked_all check_start rs
+check_alone rs h = h ∙ ap (checked_all check_start) (map-id rs)

@@ -1,5 +1,5 @@
 -- The records of an accepted text, read one after the other, give what the text gives by its words.
-use Rattle.std.specs.Prelude.{ℕ, ◌+◌, ◌≤◌, ◌≡◌, Bool, true, false, ◌&&◌, leb, length}
+use Rattle.std.specs.Prelude.{ℕ, ◌+◌, ◌≤◌, ◌≡◌, Bool, true, false, ◌&&◌, leb, length, Option, Some, None}
 use Rattle.std.proofs.Math.Path.{refl}
 use Rattle.std.proofs.Common.{sym, ap, subst, ◌∙◌, arith, leb-true, le-leb, eq-eqb, ne_eqb}
 use Rattle.std.proofs.Math.Bool.{and_assoc, and-true, and-false}
@@ -9,8 +9,6 @@ use Rattle.memory_range.specs.Range.{range}
 use Rattle.memory_range.specs.Valid.{valid_range, all_valid_of}
 use Rattle.host_params.specs.declared.MemoryEntry.{MemoryEntry}
 use Rattle.host_map.specs.Map.{map_ranges}
-use Rattle.memory.specs.declared.builder.OptionRange.{OptionRange}
-use Rattle.memory.specs.declared.builder.OptionRange.TheVariants.{Some, None}
 use Rattle.memory.specs.Builder.{option_valid, singles_valid}
 use Rattle.plan_record.specs.declared.record.Get as get
 use Rattle.plan_record.specs.declared.record.Record.{Record}
@@ -29,7 +27,7 @@ use Rattle.plan_input.specs.Build.{BuildIn, build_in}
 use Rattle.plan_input.specs.Input.{Input, input_of, input_read, gets_first, text_ranges}
 
 -- an optional range as a record of its word
-abbrev optional : (MemoryRange → Record) → OptionRange → List Record
+abbrev optional : (MemoryRange → Record) → Option MemoryRange → List Record
 optional make (Some r) = make r ∷ []
 optional make None = []
 
@@ -98,7 +96,7 @@ record Run (k : ℕ) (xs : List MemoryRange) (rest all : List Record) : Type 0 w
   behind : behind_words k all ≡ rest
   valid : all_valid_of (text_ranges all) ≡ (all_valid_of xs && all_valid_of (text_ranges rest))
 
-record Single (k : ℕ) (o : OptionRange) (rest all : List Record) : Type 0 where
+record Single (k : ℕ) (o : Option MemoryRange) (rest all : List Record) : Type 0 where
   from : From k all
   first : range_first k all ≡ o
   behind : behind_word k all ≡ rest
@@ -123,7 +121,7 @@ module _ (make : MemoryRange → Record) (k : ℕ) (word : (x : MemoryRange) →
         valid = rw ((word x).1, r.valid) (sym (and_assoc (valid_range x) (all_valid_of xs) (all_valid_of (text_ranges rest))));
       }
 
-  single : {rest : List Record} → From (k + 1) rest → (o : OptionRange) → Single k o rest (optional make o ++ rest)
+  single : {rest : List Record} → From (k + 1) rest → (o : Option MemoryRange) → Single k o rest (optional make o ++ rest)
   single {rest} h None = let p = past k rest h in record { from = p.0; first = p.1; behind = p.2; valid = refl }
   single {rest} h (Some x) = record { from = starts x rest; first = rw (here x, (word x).1); behind = rw (here x); valid = rw (word x).1 }
 

@@ -1,10 +1,9 @@
 -- Laws of the records from a place of a text on: they are those that the step there stands for, those of a text that no
 -- line breaks are its records, and there are no more of them than bytes.
-use Rattle.std.specs.Prelude.{ℕ, ◌+◌, ◌-◌, ◌≤◌, ◌<◌, ◌≡◌, refl, Bool, true, false, eqb}
+use Rattle.std.specs.Prelude.{ℕ, ◌+◌, ◌-◌, ◌≤◌, ◌<◌, ◌≡◌, refl, Bool, true, false, eqb, Option, Some, None, Ok, Err}
 use Rattle.std.proofs.Math.Path.{ap}
 use Rattle.std.proofs.Common.{sym, ◌∙◌, arith, add_assoc, drop_of_length-le, drop-drop}
 use mathlib.Core.List.{List, [], ◌∷◌}
-use Rattle.std.proofs.Math.Option.{Option, none, some}
 use Rattle.std.proofs.Math.Decide.{dec_lt}
 use Rattle.std.proofs.Math.ListN.{length, drop, length-drop}
 use Rattle.plan_fields.specs.Cut.{newline, split_on}
@@ -12,9 +11,7 @@ use Rattle.plan_fields.specs.Word.{after}
 use Rattle.plan_fields.specs.Laws.Cut.{first_count, first-length, split-first, split-none, split-some}
 use Rattle.plan_record.specs.declared.record.Record.{Record}
 use Rattle.plan_record.specs.Record.{line_of}
-use Rattle.plan_text.specs.declared.text.RecordStep.{RecordStep}
-use Rattle.plan_text.specs.declared.text.RecordStep.TheVariants as step
-use Rattle.plan_text.specs.Text.{parts_records, records_from, line_at, line_step, record_step}
+use Rattle.plan_text.specs.Text.{RecordStep, parts_records, records_from, line_at, line_step, record_step}
 use Rattle.plan_text.specs.Laws.Text.{step-at-end, step-at_last, step-at_line}
 use Rattle.plan_input.specs.Record.{in_front, records_in, records_at}
 
@@ -24,13 +21,13 @@ in-cons p (q ∷ ps) h = refl
 
 -- the records that a step's answer stands for: the one it yields and those from its place on
 abbrev pub records_stepped : List ℕ → RecordStep → List Record
-records_stepped text (step.Record r next) = r ∷ records_at text next
-records_stepped text step.Malformed = []
-records_stepped text step.End = []
+records_stepped text (Ok (Some s)) = s.0 ∷ records_at text s.1
+records_stepped text (Ok None) = []
+records_stepped text (Err e) = []
 
 line-records : (text : List ℕ) (o : Option Record) (next : ℕ) → in_front o (records_at text next) ≡ records_stepped text (line_step o next)
-line-records text none next = refl
-line-records text (some r) next = refl
+line-records text None next = refl
+line-records text (Some r) next = refl
 
 module _ (text : List ℕ) (at : ℕ) where
   -- none behind the text; bytes that no newline ends are no line; a line, and the records behind its newline
@@ -68,19 +65,19 @@ module _ (text : List ℕ) (at : ℕ) where
   records_by e f = records_step ∙ ap (records_stepped text) (sym e ∙ f)
 
 -- where no line breaks its form, the records are those of the text
-parts-accepted : (ps : List (List ℕ)) {rs : List Record} → parts_records ps ≡ some rs → records_in ps ≡ rs
+parts-accepted : (ps : List (List ℕ)) {rs : List Record} → parts_records ps ≡ Some rs → records_in ps ≡ rs
 parts-accepted [] e = absurd (let z : ◌≡◌ {A = ℕ} 0 1 = cc in omega arith)
 parts-accepted ([] ∷ []) e = cc
 parts-accepted ((b ∷ p) ∷ []) e = absurd (let z : ◌≡◌ {A = ℕ} 0 1 = cc in omega arith)
 parts-accepted (p ∷ q ∷ ps) {rs} e = go (line_of p) (parts_records (q ∷ ps)) (λ rest. parts-accepted (q ∷ ps) {rs = rest}) e
   where
-    go : (l : Option Record) (o : Option (List Record)) → ((rest : List Record) → o ≡ some rest → records_in (q ∷ ps) ≡ rest)
-        → after l (λ r. after o (λ rest. some (r ∷ rest))) ≡ some rs → in_front l (records_in (q ∷ ps)) ≡ rs
-    go none o f g = absurd (let z : ◌≡◌ {A = ℕ} 0 1 = cc in omega arith)
-    go (some r) none f g = absurd (let z : ◌≡◌ {A = ℕ} 0 1 = cc in omega arith)
-    go (some r) (some rest) f g = ap (λ (l : List Record). r ∷ l) (f rest refl) ∙ cc
+    go : (l : Option Record) (o : Option (List Record)) → ((rest : List Record) → o ≡ Some rest → records_in (q ∷ ps) ≡ rest)
+        → after l (λ r. after o (λ rest. Some (r ∷ rest))) ≡ Some rs → in_front l (records_in (q ∷ ps)) ≡ rs
+    go None o f g = absurd (let z : ◌≡◌ {A = ℕ} 0 1 = cc in omega arith)
+    go (Some r) None f g = absurd (let z : ◌≡◌ {A = ℕ} 0 1 = cc in omega arith)
+    go (Some r) (Some rest) f g = ap (λ (l : List Record). r ∷ l) (f rest refl) ∙ cc
 
-pub records-accepted : (text : List ℕ) (at : ℕ) {rs : List Record} → records_from at text ≡ some rs → records_at text at ≡ rs
+pub records-accepted : (text : List ℕ) (at : ℕ) {rs : List Record} → records_from at text ≡ Some rs → records_at text at ≡ rs
 unfolding records_at
 records-accepted text at e = parts-accepted (split_on newline (drop at text)) e
 
@@ -99,8 +96,8 @@ in_few (p ∷ []) = omega arith
 in_few (p ∷ q ∷ ps) = go (line_of p) (in_few (q ∷ ps))
   where
     go : (l : Option Record) → length (records_in (q ∷ ps)) ≤ length (q ∷ ps) - 1 → length (in_front l (records_in (q ∷ ps))) ≤ length (p ∷ q ∷ ps) - 1
-    go none i = omega arith
-    go (some r) i = omega arith
+    go None i = omega arith
+    go (Some r) i = omega arith
 
 pub records_few : (text : List ℕ) (at : ℕ) → length (records_at text at) ≤ length text
 unfolding records_at

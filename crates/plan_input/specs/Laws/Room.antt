@@ -1,28 +1,27 @@
 -- What arrays hold of lists that may be longer than they are; and that selection and the build answer the same from it: each array
 -- has one place more than its row allows, so a list that is too long is refused either way.
-use Rattle.std.specs.Prelude.{ℕ, suc, zero, ◌<◌, min, ◌≡◌, refl, Bool, true, false, List, [], ◌∷◌, leb, length, take, set}
+use Rattle.std.specs.Prelude.{ℕ, suc, zero, ◌<◌, min, ◌≡◌, refl, true, false, List, [], ◌∷◌, leb, length, take, set, Option, Some, None}
 use Rattle.std.proofs.Common.{sym, ◌∙◌, true≢false, arith, length-take, take_all}
 use Rattle.std.proofs.Math.Bool.{and-eq-true_iff, and-false}
-use Rattle.std.proofs.Math.Option.{Option, none, some}
 use Rattle.std.proofs.Math.Decide.{dec_le}
 use borrow.Author.Tests.{lt-leb, lt-ltb}
 use Rattle.std.proofs.lemmas.List.Edits.{sets}
 use Rattle.std.proofs.Math.Seq.{take-nil}
+use Rattle.refusal.specs.declared.Refusal.{Refusal}
 use Rattle.refusal.specs.Rows.{unless}
 use Rattle.refusal.specs.Number.{map_count_of}
 use Rattle.memory_range.specs.declared.range.MemoryRange.{MemoryRange}
 use Rattle.memory_range.specs.declared.range.TaggedRange.{TaggedRange}
-use Rattle.memory_range.specs.List.{ranges_of, ranges_in}
+use Rattle.memory_range.specs.List.{ranges_in}
 use Rattle.memory_range.specs.Valid.{valid_range, all_valid_of, ascend_from, ascend}
 use Rattle.host_params.specs.declared.IsolationType.{IsolationType}
 use Rattle.host_params.specs.declared.MemoryAllocationMode.{MemoryAllocationMode}
 use Rattle.host_params.specs.declared.MemoryEntry.{MemoryEntry}
-use Rattle.host_params.specs.declared.OptionU64.{OptionU64}
-use Rattle.host_map.specs.Map.{map_of, map_ranges, is_protectable, map_starts_of, map_ends_of, map_nodes_of, map_protectable_of}
+use Rattle.host_map.specs.Map.{map_ranges}
 use Rattle.vtl2_ram.specs.Rows.{counts_good}
 use Rattle.vtl2_ram.specs.Choice.{refused}
 use Rattle.vtl2_ram.specs.Select.{choice}
-use Rattle.vtl2_ram.specs.Laws.Map.{map-again, length-map-ranges}
+use Rattle.vtl2_ram.specs.Laws.Map.{length-map-ranges}
 use Rattle.vtl2_ram.specs.Laws.Rows.{rows-count}
 use Rattle.memory.specs.declared.builder.AddressSpaceManagerBuilder.{AddressSpaceManagerBuilder}
 use Rattle.memory.specs.Build.{Build, refused as build_refused, build, filled}
@@ -32,7 +31,6 @@ use Rattle.memory.specs.Used.{used_of, used_refusal}
 use Rattle.memory.specs.Laws.Build.{pools_many}
 use Rattle.memory.specs.Laws.Overlap.{used_refused-none}
 use Rattle.memory.specs.Laws.Rows.{rows-passed}
-use Rattle.plan_input.specs.Range.{starts_in, ends_in}
 use Rattle.plan_input.specs.Room.{map_room, import_room, config_room, pool_room}
 
 module _ {A : Type 0} where
@@ -45,51 +43,24 @@ module _ {A : Type 0} where
   sets_behind x l i [] = refl
   sets_behind x l i (v ∷ vs) = sets_behind x (set l i v) (suc i) vs
 
--- a field of the values of a list, stored from an array's first place on: it holds those that it has room for
-module _ {A B : Type 0} (field : List A → List B) (f : A → B) (empty : field [] ≡ [])
-    (more : (x : A) (xs : List A) → field (x ∷ xs) ≡ f x ∷ field xs) where
-  stored : (l : List B) (xs : List A) (n : ℕ) → min n (length l) ≡ min (length xs) (length l)
-      → take n (sets l 0 (field xs)) ≡ field (take (length l) xs)
-  stored [] xs n e = rw (sets-none 0 (field xs), take-nil n, empty)
-  stored (y ∷ l) [] zero e = sym empty
+  -- values that are stored from an array's first place on: it holds those that it has room for
+  stored : (l xs : List A) (n : ℕ) → min n (length l) ≡ min (length xs) (length l) → take n (sets l 0 xs) ≡ take (length l) xs
+  stored [] xs n e = rw (sets-none 0 xs) (take-nil n)
+  stored (y ∷ l) [] zero e = refl
   stored (y ∷ l) [] (suc n) e = absurd (omega arith)
   stored (y ∷ l) (x ∷ xs) zero e = absurd (omega arith)
-  stored (y ∷ l) (x ∷ xs) (suc n) e = rw (more x xs, sets_behind (f x) l 0 (field xs), stored l xs n (omega arith), more x (take (length l) xs))
+  stored (y ∷ l) (x ∷ xs) (suc n) e = rw (sets_behind x l 0 xs, stored l xs n (omega arith))
 
-  stored_in : {room : ℕ} (l : List B) (xs : List A) (n : ℕ) → length l ≡ room → min n room ≡ min (length xs) room
-      → take n (sets l 0 (field xs)) ≡ field (take room xs)
-  stored_in l xs n h e = rw h at (stored l xs n (omega arith))
+  -- so they are found again, as many as there is room for
+  pub stored-list : (room : ℕ) (xs l : List A) (n : ℕ) → length l ≡ room → n ≡ min (length xs) room → take n (sets l 0 xs) ≡ take room xs
+  stored-list room xs l n h c = rw h at (stored l xs n (omega arith))
 
--- the starts and ends of ranges make them again
-ranges-again : (rs : List MemoryRange) → ranges_of (starts_in rs) (ends_in rs) ≡ rs
-ranges-again [] = refl
-ranges-again (r ∷ rs) = rw (ranges-again rs)
+-- ranges that are stored are found again, as many as there is room for, and so is a map
+pub stored-ranges : (room : ℕ) (rs l : List MemoryRange) (n : ℕ) → length l ≡ room → n ≡ min (length rs) room → take n (sets l 0 rs) ≡ take room rs
+stored-ranges = stored-list
 
--- so ranges that are stored in two arrays are found again, as many as there is room for
-pub stored-ranges : (room : ℕ) (rs : List MemoryRange) (ss es : List ℕ) (n : ℕ) → length ss ≡ room → length es ≡ room
-    → n ≡ min (length rs) room → ranges_of (take n (sets ss 0 (starts_in rs))) (take n (sets es 0 (ends_in rs))) ≡ take room rs
-stored-ranges room rs ss es n s e c =
-    let m : min n room ≡ min (length rs) room = omega arith in
-    rw (
-      stored_in starts_in (λ r. r.start) refl (λ x xs. refl) ss rs n s m,
-      stored_in ends_in (λ r. r.end) refl (λ x xs. refl) es rs n e m,
-    )
-    (ranges-again (take room rs))
-
--- and so is a map that is stored in four
-pub stored-map : (room : ℕ) (m : List MemoryEntry) (ss es ns : List ℕ) (ls : List Bool) (n : ℕ) → length ss ≡ room → length es ≡ room
-    → length ns ≡ room → length ls ≡ room → n ≡ min (length m) room
-    → map_of (take n (sets ss 0 (map_starts_of m))) (take n (sets es 0 (map_ends_of m))) (take n (sets ns 0 (map_nodes_of m))) (take n (sets ls 0 (map_protectable_of m)))
-    ≡ take room m
-stored-map room m ss es ns ls n s e t l c =
-    let k : min n room ≡ min (length m) room = omega arith in
-    rw (
-      stored_in map_starts_of (λ x. x.range.start) refl (λ x xs. refl) ss m n s k,
-      stored_in map_ends_of (λ x. x.range.end) refl (λ x xs. refl) es m n e k,
-      stored_in map_nodes_of (λ x. x.vnode) refl (λ x xs. refl) ns m n t k,
-      stored_in map_protectable_of (λ x. is_protectable x.mem_type) refl (λ x xs. refl) ls m n l k,
-    )
-    (map-again (take room m))
+pub stored-map : (room : ℕ) (m l : List MemoryEntry) (n : ℕ) → length l ≡ room → n ≡ min (length m) room → take n (sets l 0 m) ≡ take room m
+stored-map = stored-list
 
 -- the first of a list of ranges are valid, and ascend, where all do
 valid-take : (n : ℕ) (rs : List MemoryRange) → all_valid_of rs ≡ true → all_valid_of (take n rs) ≡ true
@@ -128,7 +99,7 @@ Good rs = (all_valid_of rs ≡ true) × (ascend rs ≡ true)
 good-take : (n : ℕ) (rs : List MemoryRange) → Good rs → Good (take n rs)
 good-take n rs g = (valid-take n rs g.0, ascend-take n 0 rs g.1)
 
-module _ (mode : MemoryAllocationMode) (isolation : IsolationType) (size : OptionU64) (file : MemoryRange) (f : valid_range file ≡ true) where
+module _ (mode : MemoryAllocationMode) (isolation : IsolationType) (size : (Option ℕ)) (file : MemoryRange) (f : valid_range file ≡ true) where
   row_six : (m : List MemoryEntry) (is : List MemoryRange) → Good (map_ranges m) → Good is → counts_good mode (length m) (length is) ≡ false
       → choice mode isolation size file m is ≡ refused map_count_of
   unfolding choice
@@ -153,7 +124,7 @@ module _ (mode : MemoryAllocationMode) (isolation : IsolationType) (size : Optio
   ]
 
 -- so selection answers from what is stored as from the lists themselves
-pub choice_room : (mode : MemoryAllocationMode) (isolation : IsolationType) (size : OptionU64) (file : MemoryRange)
+pub choice_room : (mode : MemoryAllocationMode) (isolation : IsolationType) (size : (Option ℕ)) (file : MemoryRange)
     (m : List MemoryEntry) (imports : List MemoryRange) → valid_range file ≡ true → all_valid_of (map_ranges m) ≡ true → all_valid_of imports ≡ true
     → ascend (map_ranges m) ≡ true → ascend imports ≡ true
     → choice mode isolation size file (take map_room m) (take import_room imports) ≡ choice mode isolation size file m imports
@@ -161,9 +132,9 @@ choice_room mode isolation size file m is f v w a b =
     map-room mode isolation size file f m (take import_room is) (v, a) (good-take import_room is (w, b)) ∙ import-room mode isolation size file f m is (v, a) (w, b)
 
 -- the build: where rows refuse, what comes behind them makes no difference
-either : (o : Option ℕ) (x y : Build) → (o ≡ none → ⊥) → unless build_refused o x ≡ unless build_refused o y
-either none x y h = absurd (h refl)
-either (some n) x y h = refl
+either : (o : Option Refusal) (x y : Build) → (o ≡ None → ⊥) → unless build_refused o x ≡ unless build_refused o y
+either None x y h = absurd (h refl)
+either (Some n) x y h = refl
 
 module _ (b : AddressSpaceManagerBuilder) (ram : List TaggedRange) where
   -- too many config ranges are refused alike, by row 17 at the latest
@@ -186,7 +157,7 @@ module _ (b : AddressSpaceManagerBuilder) (ram : List TaggedRange) where
   unfolding used_refusal
   used_alike cs ps qs l k = rw (lt-ltb 64 (length ps) l, lt-ltb 64 (length qs) k)
 
-  used_refused : (cs ps : List MemoryRange) → 64 < length ps → used_refusal b cs ps ≡ none → ⊥
+  used_refused : (cs ps : List MemoryRange) → 64 < length ps → used_refusal b cs ps ≡ None → ⊥
   used_refused cs ps l e = true≢false (sym (pools_many b.bootshim_used _ ps l) ∙ (used_refused-none b cs ps e).2)
 
   pool-room : (cs ps : List MemoryRange) → all_valid_of ps ≡ true → build b 0 ram cs (take pool_room ps) ≡ build b 0 ram cs ps

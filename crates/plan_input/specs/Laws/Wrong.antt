@@ -1,10 +1,9 @@
 -- Wrong answers of what is read of a text, each refuted (docs/PROVED.md).
-use Rattle.std.specs.Prelude.{ℕ, ◌≡◌, Bool, true, false, List, [], ◌∷◌, ◌≢◌, length}
+use Rattle.std.specs.Prelude.{ℕ, ◌≡◌, Bool, true, false, List, [], ◌∷◌, ◌≢◌, length, Option, Some, None}
 use Rattle.std.proofs.Common.{ap, sym, ◌∙◌, arith}
 use Rattle.std.proofs.lemmas.Bool.{false≢true}
+use Rattle.memory_range.specs.declared.range.MemoryRange.{MemoryRange}
 use Rattle.memory_range.specs.Range.{range}
-use Rattle.memory.specs.declared.builder.OptionRange.{OptionRange}
-use Rattle.memory.specs.declared.builder.OptionRange.TheVariants.{Some, None}
 use Rattle.plan_record.specs.declared.record.Record.{Record}
 use Rattle.plan_record.specs.declared.record.Record.TheVariants.{Side, Tables}
 use Rattle.plan_input.specs.declared.selection.SelectionRead.{SelectionRead}
@@ -13,7 +12,7 @@ use Rattle.plan_input.specs.Record.{records_at, behind_one}
 use Rattle.plan_input.specs.Selection.{SelectionIn, SelectionHeld}
 
 -- what the answers are told apart by
-abbrev is_given_in : OptionRange → Bool
+abbrev is_given_in : Option MemoryRange → Bool
 is_given_in (Some r) = true
 is_given_in None = false
 

@@ -1,9 +1,8 @@
 -- Laws of the numbers as they are written: the digits are those that the contracts of `io::decimal` and `io::hex` give, and few
 -- enough; a number of 64 bits in hexadecimal is read again, and what is read as a number is written again.
-use Rattle.std.specs.Prelude.{ℕ, zero, suc, ◌+◌, ◌*◌, ◌-◌, ◌/◌, ◌%◌, ◌^◌, ◌≤◌, ◌<◌, ◌≡◌, refl, Bool, true, false, ◌&&◌, not, List, [], ◌∷◌, ◌++◌, ltb, length}
+use Rattle.std.specs.Prelude.{ℕ, zero, suc, ◌+◌, ◌*◌, ◌-◌, ◌/◌, ◌%◌, ◌^◌, ◌≤◌, ◌<◌, ◌≡◌, refl, Bool, true, false, ◌&&◌, not, List, [], ◌∷◌, ◌++◌, ltb, length, Option, Some, None}
 use Rattle.std.proofs.Common.{ap, ap₂, sym, ◌∙◌, append-nil, append_assoc, arith, pow-suc, le-mul_of_pos_right, mod-eq_of_lt, div-lt_iff_lt-mul, le-div_iff_mul-le, ltb-false, lt-ltb, le-ltb, le-leb, ne_eqb, length-append}
 use Rattle.std.proofs.Math.Bool.{and-eq-true_iff}
-use Rattle.std.proofs.Math.Option.{Option, none, some}
 use Rattle.std.proofs.Math.Decide.{dec_lt}
 use Rattle.std.proofs.Math.Nat.{pow-zero, pow-succ', pow-le-pow_right, one-le-pow}
 use Rattle.std.proofs.lemmas.Bool.{lt-leb, eqb-false, not-true}
@@ -98,9 +97,9 @@ unfolding decimal_of
 decimal-length n = digits_most 3 10 n
 
 -- the byte of a digit is read as that digit, and no other byte is
-read_glyph : (d : ℕ) → d < 16 → digit_of (hex_digit_ascii d) ≡ some d
+read_glyph : (d : ℕ) → d < 16 → digit_of (hex_digit_ascii d) ≡ Some d
 read_glyph d h = elim (dec_lt d 10) [
-  | yes l ↦ rw (lt-ltb d 10 l, le-leb 48 (48 + d) (omega arith), le-leb (48 + d) 57 (omega arith)) (ap some (omega arith))
+  | yes l ↦ rw (lt-ltb d 10 l, le-leb 48 (48 + d) (omega arith), le-leb (48 + d) 57 (omega arith)) (ap Some (omega arith))
   | no l ↦
       rw (
         le-ltb d 10 (omega arith),
@@ -108,10 +107,10 @@ read_glyph d h = elim (dec_lt d 10) [
         lt-leb (87 + d) 57 (omega arith),
         le-leb 97 (87 + d) (omega arith),
         le-leb (87 + d) 102 (omega arith),
-      ) (ap some (omega arith))
+      ) (ap Some (omega arith))
 ]
 
-glyph-read : (b d : ℕ) → digit_of b ≡ some d → hex_digit_ascii d ≡ b
+glyph-read : (b d : ℕ) → digit_of b ≡ Some d → hex_digit_ascii d ≡ b
 glyph-read b d h = go (between 48 57 b) (between 97 102 b) refl refl
   where
     go : (s t : Bool) → between 48 57 b ≡ s → between 97 102 b ≡ t → hex_digit_ascii d ≡ b
@@ -126,25 +125,25 @@ glyph-read b d h = go (between 48 57 b) (between 97 102 b) refl refl
     go false false e f = let z : ◌≡◌ {A = ℕ} 0 1 = (let k = rw (e, f) at h in cc) in absurd (omega arith)
 
 -- digits behind others go on from what those spell
-spelled-behind : (xs ys : List ℕ) (v w : ℕ) → spelled_from v xs ≡ some w → spelled_from v (xs ++ ys) ≡ spelled_from w ys
+spelled-behind : (xs ys : List ℕ) (v w : ℕ) → spelled_from v xs ≡ Some w → spelled_from v (xs ++ ys) ≡ spelled_from w ys
 spelled-behind [] ys v w h = let e : v ≡ w = cc in rw e
 spelled-behind (b ∷ xs) ys v w h = go (digit_of b) refl (λ u. spelled-behind xs ys u w)
   where
-    go : (o : Option ℕ) → digit_of b ≡ o → ((u : ℕ) → spelled_from u xs ≡ some w → spelled_from u (xs ++ ys) ≡ spelled_from w ys)
+    go : (o : Option ℕ) → digit_of b ≡ o → ((u : ℕ) → spelled_from u xs ≡ Some w → spelled_from u (xs ++ ys) ≡ spelled_from w ys)
         → spelled_from v (b ∷ (xs ++ ys)) ≡ spelled_from w ys
-    go none e i = let z : ◌≡◌ {A = ℕ} 0 1 = cc (spelled_none v b xs e) in absurd (omega arith)
-    go (some d) e i = spelled_digit v b d (xs ++ ys) e ∙ i (v * 16 + d) (sym (spelled_digit v b d xs e) ∙ h)
+    go None e i = let z : ◌≡◌ {A = ℕ} 0 1 = cc (spelled_none v b xs e) in absurd (omega arith)
+    go (Some d) e i = spelled_digit v b d (xs ++ ys) e ∙ i (v * 16 + d) (sym (spelled_digit v b d xs e) ∙ h)
 
-digits_spell : (most n : ℕ) → n < 16 ^ most → spelled_from 0 (digits_for most 16 n) ≡ some n
-digits_spell zero n h = ap some (omega arith)
+digits_spell : (most n : ℕ) → n < 16 ^ most → spelled_from 0 (digits_for most 16 n) ≡ Some n
+digits_spell zero n h = ap Some (omega arith)
 digits_spell (suc most) n h = elim (dec_lt n 16) [
-  | yes l ↦ ap (spelled_from 0) (one_digit 16 most n l) ∙ spelled_digit 0 (hex_digit_ascii n) n [] (read_glyph n l) ∙ ap some (omega arith)
+  | yes l ↦ ap (spelled_from 0) (one_digit 16 most n l) ∙ spelled_digit 0 (hex_digit_ascii n) n [] (read_glyph n l) ∙ ap Some (omega arith)
   | no l ↦
       let front = digits_spell most (n / 16) (div_below 16 n most (omega arith) h) in
       ap (spelled_from 0) (more_digits 16 most n (omega arith))
       ∙ spelled-behind (digits_for most 16 (n / 16)) (hex_digit_ascii (n % 16) ∷ []) 0 (n / 16) front
       ∙ spelled_digit (n / 16) (hex_digit_ascii (n % 16)) (n % 16) [] (read_glyph (n % 16) (omega arith))
-      ∙ ap some (omega arith)
+      ∙ ap Some (omega arith)
 ]
 
 -- a number above 0 is written with no `0` in front, whatever stands behind it
@@ -175,16 +174,16 @@ hex_front n h = elim (dec_lt 0 n) [
 ]
 
 -- what makes a field spell a number
-number-of : (bs : List ℕ) (n : ℕ) → 1 ≤ length bs → length bs ≤ 16 → zero_in_front bs ≡ false → spelled_from 0 bs ≡ some n → number_of bs ≡ some n
+number-of : (bs : List ℕ) (n : ℕ) → 1 ≤ length bs → length bs ≤ 16 → zero_in_front bs ≡ false → spelled_from 0 bs ≡ Some n → number_of bs ≡ Some n
 number-of bs n l m z e = rw (le-leb 1 (length bs) l, le-leb (length bs) 16 m, z) e
 
-pub read-hex : (n : ℕ) → n < 2 ^ 64 → number_of (hex_of n) ≡ some n
+pub read-hex : (n : ℕ) → n < 2 ^ 64 → number_of (hex_of n) ≡ Some n
 unfolding hex_of
 read-hex n h =
     number-of (digits_for 16 16 n) n (digits-some 15 16 n) (digits_most 16 16 n) (hex_front n h) (digits_spell 16 n (omega arith))
 
 -- what digits spell behind a number above 0 is written with those digits behind it
-behind-written : (bs : List ℕ) (most v n : ℕ) → 0 < v → spelled_from v bs ≡ some n
+behind-written : (bs : List ℕ) (most v n : ℕ) → 0 < v → spelled_from v bs ≡ Some n
     → digits_for (most + length bs) 16 n ≡ digits_for most 16 v ++ bs
 behind-written [] most v n p h =
     let e : v ≡ n = cc in
@@ -193,10 +192,10 @@ behind-written [] most v n p h =
 behind-written (b ∷ bs) most v n p h = go (digit_of b) refl (λ w. behind-written bs (suc most) w n)
   where
     go : (o : Option ℕ) → digit_of b ≡ o
-        → ((w : ℕ) → 0 < w → spelled_from w bs ≡ some n → digits_for (suc most + length bs) 16 n ≡ digits_for (suc most) 16 w ++ bs)
+        → ((w : ℕ) → 0 < w → spelled_from w bs ≡ Some n → digits_for (suc most + length bs) 16 n ≡ digits_for (suc most) 16 w ++ bs)
         → digits_for (most + suc (length bs)) 16 n ≡ digits_for most 16 v ++ (b ∷ bs)
-    go none e i = let z : ◌≡◌ {A = ℕ} 0 1 = cc (spelled_none v b bs e) in absurd (omega arith)
-    go (some d) e i =
+    go None e i = let z : ◌≡◌ {A = ℕ} 0 1 = cc (spelled_none v b bs e) in absurd (omega arith)
+    go (Some d) e i =
         let small = digit-bound b d e in
         let count : most + suc (length bs) ≡ suc most + length bs = omega arith in
         let whole : (v * 16 + d) / 16 ≡ v = omega arith in
@@ -208,20 +207,20 @@ behind-written (b ∷ bs) most v n p h = go (digit_of b) refl (λ w. behind-writ
         ∙ ap₂ (λ (w c : ℕ). digits_for most 16 w ++ c ∷ bs) whole last
 
 -- digits with no `0` in front of others are those that their number is written with
-spelled-written : (bs : List ℕ) (n : ℕ) → 1 ≤ length bs → length bs ≤ 16 → zero_in_front bs ≡ false → spelled_from 0 bs ≡ some n
+spelled-written : (bs : List ℕ) (n : ℕ) → 1 ≤ length bs → length bs ≤ 16 → zero_in_front bs ≡ false → spelled_from 0 bs ≡ Some n
     → digits_for 16 16 n ≡ bs
 spelled-written [] n l m z h = absurd (omega arith)
 spelled-written (b ∷ bs) n l m z h = go (digit_of b) refl bs m z h
   where
     go : (o : Option ℕ) → digit_of b ≡ o → (cs : List ℕ) → suc (length cs) ≤ 16 → zero_in_front (b ∷ cs) ≡ false
-        → spelled_from 0 (b ∷ cs) ≡ some n → digits_for 16 16 n ≡ b ∷ cs
-    go none e cs m z h = let z : ◌≡◌ {A = ℕ} 0 1 = cc (spelled_none 0 b cs e) in absurd (omega arith)
-    go (some d) e [] m z h =
+        → spelled_from 0 (b ∷ cs) ≡ Some n → digits_for 16 16 n ≡ b ∷ cs
+    go None e cs m z h = let z : ◌≡◌ {A = ℕ} 0 1 = cc (spelled_none 0 b cs e) in absurd (omega arith)
+    go (Some d) e [] m z h =
         let same : 0 * 16 + d ≡ n = (let k = sym (spelled_digit 0 b d [] e) ∙ h in cc) in
         let this : d ≡ n = omega arith in
         one_digit 16 15 n (omega (arith, digit-bound b d e)) ∙ ap (λ (x : ℕ). x ∷ []) (ap hex_digit_ascii (sym this) ∙ glyph-read b d e)
-    go (some d) e (c ∷ cs) m z h =
-        let rest : spelled_from d (c ∷ cs) ≡ some n
+    go (Some d) e (c ∷ cs) m z h =
+        let rest : spelled_from d (c ∷ cs) ≡ Some n
         = (let same : 0 * 16 + d ≡ d = omega arith in
         ap (λ (v : ℕ). spelled_from v (c ∷ cs)) (sym same) ∙ sym (spelled_digit 0 b d (c ∷ cs) e) ∙ h) in
         let front : 0 < d = elim (dec_lt 0 d) [
@@ -236,7 +235,7 @@ spelled-written (b ∷ bs) n l m z h = go (digit_of b) refl bs m z h
         ∙ ap (λ (xs : List ℕ). xs ++ (c ∷ cs)) (one_digit 16 (15 - suc (length cs)) d (digit-bound b d e))
         ∙ ap (λ (x : ℕ). x ∷ c ∷ cs) (glyph-read b d e)
 
-pub hex-read : (bs : List ℕ) (n : ℕ) → number_of bs ≡ some n → hex_of n ≡ bs
+pub hex-read : (bs : List ℕ) (n : ℕ) → number_of bs ≡ Some n → hex_of n ≡ bs
 unfolding hex_of
 hex-read bs n h = go (between 1 16 (length bs) && not (zero_in_front bs)) refl
   where

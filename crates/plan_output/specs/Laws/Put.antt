@@ -1,10 +1,9 @@
 -- Laws of bytes put at a place: the length stays, and bytes put behind others are put with them at once.
-use Rattle.std.specs.Prelude.{ℕ, ◌+◌, ◌≤◌, ◌<◌, ◌≡◌, List, [], ◌∷◌, ◌++◌, length, take, drop, set}
+use Rattle.std.specs.Prelude.{ℕ, ◌+◌, ◌≤◌, ◌<◌, ◌≡◌, List, [], ◌∷◌, ◌++◌, length, take, drop, set, Some, None}
 use Rattle.std.proofs.Common.{ap, ◌∙◌, append_assoc, arith, add-one, le-leb, length-append, length-take, length-drop, take_at, drop_at, drop-drop}
 use Rattle.std.proofs.lemmas.Bool.{lt-leb}
 use Rattle.std.proofs.lemmas.List.{set_split}
 use Rattle.std.proofs.Math.Seq.{append_snoc}
-use Rattle.plan_output.specs.declared.put.Put.TheVariants.{To, NoRoom}
 use Rattle.plan_output.specs.Put.{put_at, put_in, put_place}
 
 pub put-length : (at : ℕ) (word buffer : List ℕ) → at + length word ≤ length buffer → length (put_at at word buffer) ≡ length buffer
@@ -38,11 +37,11 @@ put_one at b buffer h = rw (set_split buffer at b h, add-one at, append_snoc)
 
 -- a put where there is room, and where there is none
 pub put-in : (at : ℕ) (word buffer : List ℕ) → at + length word ≤ length buffer
-    → (put_in at word buffer ≡ put_at at word buffer) × (put_place at word buffer ≡ To (at + length word))
+    → (put_in at word buffer ≡ put_at at word buffer) × (put_place at word buffer ≡ Some (at + length word))
 unfolding put_in put_place
 put-in at word buffer h = let e = le-leb (at + length word) (length buffer) h in (rw e, rw e)
 
 pub put_out : (at : ℕ) (word buffer : List ℕ) → length buffer < at + length word
-    → (put_in at word buffer ≡ buffer) × (put_place at word buffer ≡ NoRoom)
+    → (put_in at word buffer ≡ buffer) × (put_place at word buffer ≡ None)
 unfolding put_in put_place
 put_out at word buffer h = let e = lt-leb (at + length word) (length buffer) h in (rw e, rw e)

@@ -1,24 +1,19 @@
 -- Wrong answers about what is written: on a small input the definition gives other bytes.
-use Rattle.std.specs.Prelude.{refl, ◌≢◌, Bool, true, false, [], ◌∷◌}
-use Rattle.std.proofs.Common.{ap, true≢false}
+use Rattle.std.specs.Prelude.{refl, ◌≢◌, [], ◌∷◌, None}
+use Rattle.std.proofs.Common.{sym}
+use Rattle.std.proofs.lemmas.Option.{none-some}
 use Rattle.memory_range.specs.Range.{range}
 use Rattle.plan_fields.specs.Word.{ascii}
 use Rattle.plan_fields.specs.Laws.Wrong.{differ}
 use Rattle.host_params.specs.declared.MemoryVtlType.TheVariants.{Ram}
-use Rattle.plan_output.specs.declared.put.Put.{Put}
-use Rattle.plan_output.specs.declared.put.Put.TheVariants.{To, NoRoom}
 use Rattle.plan_output.specs.Number.{hex_of, decimal_of}
 use Rattle.plan_output.specs.Put.{put_in, put_place}
 use Rattle.plan_output.specs.Line.{range_line, ram_line, no_line, map_line}
 
-abbrev is_put : Put → Bool
-is_put (To at) = true
-is_put NoRoom = false
-
 -- a full buffer refused
-pub full_buffer_refused : put_place 1 (ascii "ab") (0 ∷ 0 ∷ 0 ∷ []) ≢ NoRoom
+pub full_buffer_refused : put_place 1 (ascii "ab") (0 ∷ 0 ∷ 0 ∷ []) ≢ None
 unfolding put_place
-full_buffer_refused e = true≢false (ap is_put e)
+full_buffer_refused e = none-some _ (sym e)
 
 -- a byte written where there is no room
 pub written-without_room : put_in 1 (ascii "ab") (0 ∷ 0 ∷ []) ≢ 0 ∷ 97 ∷ []

@@ -1,9 +1,9 @@
 -- A word's form, by what the code learnt of the word: which one it is, or that it is none of those with fields of their own.
+use Rattle.std.specs.Prelude.{Option, Some}
 use Prim.Native.Nat.{ℕ}
 use mathlib.Core.Path.{◌≡◌, refl, sym, ◌∙◌}
 use mathlib.Core.Bool.{Bool, true, false, cond}
 use mathlib.Core.List.{List, [], ◌∷◌}
-use mathlib.Core.Option.{Option, some}
 use Rattle.plan_fields.specs.Laws.Word.{same_eq}
 use Rattle.plan_fields.specs.Word.{ascii, same_bytes, after}
 use Rattle.plan_record.specs.declared.record.Record.{Record}
@@ -27,8 +27,8 @@ by-range (own word times make ∷ rest) w fs h = rw h.0 (by-range rest w fs h.1)
 by-range (range word times make ∷ rest) w fs h = go (same_bytes w (ascii word)) (by-range rest w fs h)
   where
     go : (t : Bool) → after (range_of fs) (λ r. range_by rest w r) ≡ record_by rest w fs
-        → after (range_of fs) (λ r. cond t (some (make r)) (range_by rest w r))
-        ≡ cond t (after (range_of fs) (λ r. some (make r))) (record_by rest w fs)
+        → after (range_of fs) (λ r. cond t (Some (make r)) (range_by rest w r))
+        ≡ cond t (after (range_of fs) (λ r. Some (make r))) (record_by rest w fs)
     go true i = refl
     go false i = i
 

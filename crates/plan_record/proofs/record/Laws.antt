@@ -1,58 +1,51 @@
 -- The fields of a record as the readers take them: one after the other from the front, and all that is left as the last.
+use Rattle.std.specs.Prelude.{Option, Some, None}
 use Prim.Native.Nat.{ℕ, ◌+◌, ◌≤◌, ◌<◌}
 use mathlib.Core.Path.{◌≡◌, refl, ap, sym, ◌∙◌}
 use mathlib.Core.Bool.{Bool, true, false, cond}
 use mathlib.Core.List.{List, [], ◌∷◌}
-use mathlib.Core.Option.{Option, none, some}
 use native.Mathlib.Omega.{arith}
+use Rattle.std.proofs.Common.{Bor}
 use native.Mathlib.Decide.{dec_lt}
 use borrow.Author.Tests.{ne_eqb, lt-ltb, le-ltb}
 use lib.ListN.{length, drop, drop_of_length-le}
 use Rattle.memory_range.specs.declared.range.MemoryRange.{MemoryRange}
-use Rattle.host_params.specs.declared.OptionU64.{OptionU64}
-use Rattle.host_params.specs.declared.OptionU64.TheVariants as u64
-use Rattle.host_params.specs.declared.OptionU32.{OptionU32}
-use Rattle.host_params.specs.declared.OptionU32.TheVariants as u32
 use Rattle.host_params.specs.declared.Vtl2GpaPoolConfig.{Vtl2GpaPoolConfig}
 use Rattle.plan_fields.specs.Cut.{tab, split_on, first_part, first_of}
 use Rattle.plan_fields.specs.Laws.Cut.{split-some, split-none, split-first, split_one}
 use Rattle.plan_fields.specs.Laws.Number.{none_either, number-tab}
 use Rattle.plan_fields.specs.Laws.Word.{same_eq}
-use Rattle.plan_fields.specs.Number.{number_of, number_part_in}
-use Rattle.plan_fields.specs.declared.number.NumberPart.{NumberPart}
-use Rattle.plan_fields.specs.declared.number.NumberPart.TheVariants as number-part
+use Rattle.plan_fields.specs.Number.{number_of}
 use Rattle.plan_fields.specs.Word.{same_bytes, after}
-use Rattle.plan_record.specs.declared.value.OptionalPart.{OptionalPart}
-use Rattle.plan_record.specs.declared.value.OptionalPart.TheVariants as optional-part
 use Rattle.plan_record.specs.declared.record.Record.{Record}
 use Rattle.plan_record.specs.declared.record.Record.TheVariants.{Shape, Mem, Pool, Get}
-use Rattle.plan_record.specs.Value.{absent, mode_of, isolation_of, entry_type_of, policy_of, kind_of, split_of, optional_of, optional_part_in, node_from, optional_node_from, optional_node_of, config_of}
-use Rattle.plan_record.specs.Record.{shape_of, mem_of, pool_of, get_of, range_of, record_for, line_of}
-use Rattle.plan_record.proofs.value.Laws.{on, on-after}
+use Rattle.plan_record.specs.Value.{absent, mode_of, isolation_of, entry_type_of, policy_of, kind_of, split_of, optional_of, node_from, optional_node_from, optional_node_of, config_of}
+use Rattle.plan_record.proofs.value.Laws.{answered}
+use Rattle.plan_record.specs.Record.{Taken, shape_of, mem_of, pool_of, get_of, range_of, record_for, line_of}
 
 -- what the first of several fields makes with those behind it
 pub first : {A B : Type 0} → (List ℕ → Option A) → (A → List (List ℕ) → Option B) → List (List ℕ) → Option B
-first of next [] = none
-first of next (p ∷ []) = none
+first of next [] = None
+first of next (p ∷ []) = None
 first of next (p ∷ q ∷ ps) = after (of p) (λ v. next v (q ∷ ps))
 
 -- what an only field makes
 pub last : {A B : Type 0} → (List ℕ → Option A) → (A → Option B) → List (List ℕ) → Option B
-last of next [] = none
+last of next [] = None
 last of next (p ∷ []) = after (of p) next
-last of next (p ∷ q ∷ ps) = none
+last of next (p ∷ q ∷ ps) = None
 
-pub after_none : {A B : Type 0} (o : Option A) → after {B = B} o (λ x. none) ≡ none
-after_none none = refl
-after_none (some x) = refl
+pub after_none : {A B : Type 0} (o : Option A) → after {B = B} o (λ x. None) ≡ None
+after_none None = refl
+after_none (Some x) = refl
 
 after-after : {A B C : Type 0} (o : Option A) (f : A → Option B) (g : B → Option C) → after (after o f) g ≡ after o (λ x. after (f x) g)
-after-after none f g = refl
-after-after (some x) f g = refl
+after-after None f g = refl
+after-after (Some x) f g = refl
 
 -- the records so: another count of fields than a record has makes none
 abbrev pub range_from : List (List ℕ) → Option MemoryRange
-range_from = first number_of (λ start. last number_of (λ end. some (record { start = start; end = end })))
+range_from = first number_of (λ start. last number_of (λ end. Some (record { start = start; end = end })))
 
 pub range-fields : (fs : List (List ℕ)) → range_of fs ≡ range_from fs
 unfolding first last
@@ -71,7 +64,7 @@ mem_from =
     first number_of (λ n fs.
     after (node_from n) (λ node.
     last entry_type_of (λ type.
-    some (Mem (record { range = record { start = start; end = end }; vnode = node; mem_type = type }))) fs))))
+    Some (Mem (record { range = record { start = start; end = end }; vnode = node; mem_type = type }))) fs))))
 
 pub mem_fields : (fs : List (List ℕ)) → mem_of fs ≡ mem_from fs
 unfolding first last
@@ -90,7 +83,7 @@ shape_from =
     first mode_of (λ mode.
     first isolation_of (λ isolation.
     last optional_of (λ size.
-    some (Shape (record { mode = mode; isolation = isolation; memory_size = size })))))
+    Some (Shape (record { mode = mode; isolation = isolation; memory_size = size })))))
 
 pub shape_fields : (fs : List (List ℕ)) → shape_of fs ≡ shape_from fs
 unfolding first last
@@ -104,16 +97,16 @@ pub of_shape : (fs : List (List ℕ)) (x : Option Record) → x ≡ shape_from f
 of_shape fs x p = p ∙ sym (shape_fields fs)
 
 -- `pool` takes its first two fields together
-abbrev pub pool_behind : Vtl2GpaPoolConfig → OptionU64 → List (List ℕ) → Option Record
+abbrev pub pool_behind : Vtl2GpaPoolConfig → Option ℕ → List (List ℕ) → Option Record
 pool_behind config host =
     first number_of (λ processors.
     last split_of (λ split.
-    some (Pool (record { config = config; host_pages = host; processors = processors; split = split }))))
+    Some (Pool (record { config = config; host_pages = host; processors = processors; split = split }))))
 
 abbrev pub pool_from : List (List ℕ) → Option Record
 pool_from =
-    first some (λ kind.
-    first some (λ pages fs.
+    first Some (λ kind.
+    first Some (λ pages fs.
     after (config_of kind pages) (λ config.
     first optional_of (λ host. pool_behind config host) fs)))
 
@@ -134,18 +127,18 @@ optional-node : (f : List ℕ) → optional_node_of f ≡ after (optional_of f) 
 optional-node f = go (same_bytes f absent) (number_of f)
   where
     go : (t : Bool) (o : Option ℕ)
-        → cond t (some u32.None) (after (after o node_from) (λ n. some (u32.Some n)))
-        ≡ after (cond t (some u64.None) (after o (λ n. some (u64.Some n)))) optional_node_from
+        → cond t (Some None) (after (after o node_from) (λ n. Some (Some n)))
+        ≡ after (cond t (Some None) (after o (λ n. Some (Some n)))) optional_node_from
     go true o = refl
-    go false none = refl
-    go false (some n) = refl
+    go false None = refl
+    go false (Some n) = refl
 
-abbrev pub get_behind : OptionU32 → ℕ → List (List ℕ) → Option Record
+abbrev pub get_behind : Option ℕ → ℕ → List (List ℕ) → Option Record
 get_behind node len =
     first policy_of (λ policy.
     first kind_of (λ kind.
     last optional_of (λ align.
-    some (Get (record { required_vnode = node; len = len; allocation_policy = policy; allocation_type = kind; alignment = align })))))
+    Some (Get (record { required_vnode = node; len = len; allocation_policy = policy; allocation_type = kind; alignment = align })))))
 
 abbrev pub get_from : List (List ℕ) → Option Record
 get_from =
@@ -178,7 +171,7 @@ module _ {A B : Type 0} (of : List ℕ → Option A) (next : A → List (List �
       → first of next (split_on tab bs) ≡ after (of (first_part tab bs)) (λ v. next v (split_on tab (drop (length (first_part tab bs) + 1) bs)))
   first_of_several h = rw (split-first tab bs h) (first-cons of next _ _ (split-some tab (drop (length (first_part tab bs) + 1) bs)))
 
-  first_of-one : length bs ≤ length (first_part tab bs) → first of next (split_on tab bs) ≡ none
+  first_of-one : length bs ≤ length (first_part tab bs) → first of next (split_on tab bs) ≡ None
   unfolding first
   first_of-one h = rw (split-none tab bs h)
 
@@ -186,45 +179,42 @@ module _ {A B : Type 0} (of : List ℕ → Option A) (next : A → List (List �
   by_size : first of next (split_on tab bs) ≡ after (first_of of bs) (λ s. next s.0 (split_on tab (drop (s.1 + 1) bs)))
   unfolding first_of
   by_size = elim (dec_lt (length (first_part tab bs)) (length bs)) [
-    | yes k ↦ first_of_several k ∙ rw (lt-ltb (length (first_part tab bs)) (length bs) k) (sym (after-after (of (first_part tab bs)) (λ v. some (v, length (first_part tab bs))) (λ s. next s.0 (split_on tab (drop (s.1 + 1) bs)))))
+    | yes k ↦ first_of_several k ∙ rw (lt-ltb (length (first_part tab bs)) (length bs) k) (sym (after-after (of (first_part tab bs)) (λ v. Some (v, length (first_part tab bs))) (λ s. next s.0 (split_on tab (drop (s.1 + 1) bs)))))
     | no k ↦ first_of-one (omega arith) ∙ rw (le-ltb (length (first_part tab bs)) (length bs) (omega arith))
   ]
 
--- one that a reader took: the reader's answer `r`, and the bytes `rest` behind the field
-module _ (B : Type 0) (bs : List ℕ) where
-  pub number-next : (next : ℕ → List (List ℕ) → Option B) (r : NumberPart) (n size : ℕ) (rest : List ℕ) (x : Option B)
-      → number_part_in r ≡ first_of number_of bs → r ≡ number-part.Number n size → rest ≡ drop (size + 1) bs
-      → x ≡ next n (split_on tab rest) → x ≡ first number_of next (split_on tab bs)
-  number-next next r n size rest x e k d p = rw (by_size number_of next bs, ← e, k, ← d) p
+-- one that a reader took with the fields behind it: the reader's answer `r`
+module _ {A : Type 0} (of : List ℕ → Option A) (B : Type 0) (bs : List ℕ) (next : A → List (List ℕ) → Option B) (r : Option (A × Bor (List ℕ))) where
+  pub part_next : (part : A × Bor (List ℕ)) (x : Option B)
+      → Taken (first_of of bs) bs r → r ≡ Some part → x ≡ next part.0 (split_on tab (part.1).now) → x ≡ first of next (split_on tab bs)
+  part_next part x e k p = rw (by_size of next bs) (go (first_of of bs) (rw k at e))
+    where
+      go : (o : Option (A × ℕ)) → Taken o bs (Some part) → x ≡ after o (λ s. next s.0 (split_on tab (drop (s.1 + 1) bs)))
+      go None f = absurd f
+      go (Some s) f = rw (← f.0, ← f.1) p
 
-  pub number-none : (next : ℕ → List (List ℕ) → Option B) (r : NumberPart)
-      → number_part_in r ≡ first_of number_of bs → r ≡ number-part.Malformed → none ≡ first number_of next (split_on tab bs)
-  number-none next r e k = rw (by_size number_of next bs, ← e, k)
-
-  pub optional-next : (next : OptionU64 → List (List ℕ) → Option B) (r : OptionalPart) (v : OptionU64) (size : ℕ) (rest : List ℕ) (x : Option B)
-      → optional_part_in r ≡ first_of optional_of bs → r ≡ optional-part.Is v size → rest ≡ drop (size + 1) bs
-      → x ≡ next v (split_on tab rest) → x ≡ first optional_of next (split_on tab bs)
-  optional-next next r v size rest x e k d p = rw (by_size optional_of next bs, ← e, k, ← d) p
-
-  pub optional-none : (next : OptionU64 → List (List ℕ) → Option B) (r : OptionalPart)
-      → optional_part_in r ≡ first_of optional_of bs → r ≡ optional-part.Malformed → none ≡ first optional_of next (split_on tab bs)
-  optional-none next r e k = rw (by_size optional_of next bs, ← e, k)
+  pub part_none : (x : Option B) → Taken (first_of of bs) bs r → r ≡ None → x ≡ None → x ≡ first of next (split_on tab bs)
+  part_none x e k p = rw (by_size of next bs) (go (first_of of bs) (rw k at e))
+    where
+      go : (o : Option (A × ℕ)) → Taken o bs None → x ≡ after o (λ s. next s.0 (split_on tab (drop (s.1 + 1) bs)))
+      go None f = p
+      go (Some s) f = absurd f
 
 -- a field that was cut off: where none is behind it, the next one is read as empty, and nothing is made of that
-pub empty-first : {A B : Type 0} (of : List ℕ → Option A) (next : A → List (List ℕ) → Option B) → first of next ([] ∷ []) ≡ none
+pub empty-first : {A B : Type 0} (of : List ℕ → Option A) (next : A → List (List ℕ) → Option B) → first of next ([] ∷ []) ≡ None
 unfolding first
 empty-first of next = refl
 
-pub empty_last : {A B : Type 0} (of : List ℕ → Option A) (next : A → Option B) → of [] ≡ none → last of next ([] ∷ []) ≡ none
+pub empty_last : {A B : Type 0} (of : List ℕ → Option A) (next : A → Option B) → of [] ≡ None → last of next ([] ∷ []) ≡ None
 unfolding last
 empty_last of next e = rw e
 
-pub empty-after : {A B : Type 0} (o : Option A) (next : A → Option B) → ((v : A) → next v ≡ none) → after o next ≡ none
-empty-after none next e = refl
-empty-after (some v) next e = e v
+pub empty-after : {A B : Type 0} (o : Option A) (next : A → Option B) → ((v : A) → next v ≡ None) → after o next ≡ None
+empty-after None next e = refl
+empty-after (Some v) next e = e v
 
 cut_field : {A B : Type 0} (of : List ℕ → Option A) (next : A → List (List ℕ) → Option B) (bs p rest : List ℕ)
-    → p ≡ first_part tab bs → rest ≡ drop (length p + 1) bs → ((v : A) → next v ([] ∷ []) ≡ none)
+    → p ≡ first_part tab bs → rest ≡ drop (length p + 1) bs → ((v : A) → next v ([] ∷ []) ≡ None)
     → first of next (split_on tab bs) ≡ after (of p) (λ v. next v (split_on tab rest))
 cut_field of next bs p rest e r h = elim (dec_lt (length (first_part tab bs)) (length bs)) [
   | yes k ↦ rw (r, e) (first_of_several of next bs k)
@@ -235,37 +225,45 @@ cut_field of next bs p rest e r h = elim (dec_lt (length (first_part tab bs)) (l
 
 -- the same where its bytes are the value
 pub cut-next : (B : Type 0) (bs : List ℕ) (next : List ℕ → List (List ℕ) → Option B) (p rest : List ℕ) (x : Option B)
-    → p ≡ first_part tab bs → rest ≡ drop (length p + 1) bs → ((v : List ℕ) → next v ([] ∷ []) ≡ none)
-    → x ≡ next p (split_on tab rest) → x ≡ first some next (split_on tab bs)
-cut-next B bs next p rest x e d h y = y ∙ sym (cut_field some next bs p rest e d h)
+    → p ≡ first_part tab bs → rest ≡ drop (length p + 1) bs → ((v : List ℕ) → next v ([] ∷ []) ≡ None)
+    → x ≡ next p (split_on tab rest) → x ≡ first Some next (split_on tab bs)
+cut-next B bs next p rest x e d h y = y ∙ sym (cut_field Some next bs p rest e d h)
 
-last_of_several : {A B : Type 0} (of : List ℕ → Option A) (next : A → Option B) (ps : List (List ℕ)) → 2 ≤ length ps → last of next ps ≡ none
+last_of_several : {A B : Type 0} (of : List ℕ → Option A) (next : A → Option B) (ps : List (List ℕ)) → 2 ≤ length ps → last of next ps ≡ None
 unfolding last
 last_of_several of next [] h = refl
 last_of_several of next (p ∷ []) h = absurd (omega arith)
 last_of_several of next (p ∷ q ∷ ps) h = refl
 
-module _ {F A : Type 0} (told : F → Option A) (of : List ℕ → Option A) (B : Type 0) (r s : F) (bs : List ℕ) where
-  pub word_next : (next : A → List (List ℕ) → Option B) (p rest : List ℕ) (x : Option B)
-      → p ≡ first_part tab bs → rest ≡ drop (length p + 1) bs → told r ≡ of p → r ≡ s → ((v : A) → next v ([] ∷ []) ≡ none)
-      → x ≡ on (told s) (λ v. next v (split_on tab rest)) → x ≡ first of next (split_on tab bs)
-  word_next next p rest x e d t k h y = rw (cut_field of next bs p rest e d h, ← t, k) (y ∙ on-after (told s) _)
+module _ {A : Type 0} (of : List ℕ → Option A) (B : Type 0) (r : Option A) (bs : List ℕ) (x : Option B) where
+  pub word_next : (next : A → List (List ℕ) → Option B) (p rest : List ℕ) (v : A)
+      → p ≡ first_part tab bs → rest ≡ drop (length p + 1) bs → r ≡ of p → r ≡ Some v → ((v : A) → next v ([] ∷ []) ≡ None)
+      → x ≡ next v (split_on tab rest) → x ≡ first of next (split_on tab bs)
+  word_next next p rest v e d t k h y = rw (cut_field of next bs p rest e d h, ← t, k) y
 
   pub word_none : (next : A → List (List ℕ) → Option B) (p : List ℕ)
-      → p ≡ first_part tab bs → told r ≡ of p → r ≡ s → told s ≡ none → none ≡ first of next (split_on tab bs)
-  word_none next p e t k z = elim (dec_lt (length (first_part tab bs)) (length bs)) [
-    | yes h ↦ rw (first_of_several of next bs h, ← e, ← t, k, z)
-    | no h ↦ sym (first_of-one of next bs (omega arith))
+      → p ≡ first_part tab bs → r ≡ of p → r ≡ None → x ≡ None → x ≡ first of next (split_on tab bs)
+  word_none next p e t k y = elim (dec_lt (length (first_part tab bs)) (length bs)) [
+    | yes h ↦ rw (first_of_several of next bs h, ← e, ← t, k) y
+    | no h ↦ y ∙ sym (first_of-one of next bs (omega arith))
   ]
 
   -- the last field: where a tab is in it, it stands for nothing
-  pub whole : ((l : List ℕ) → 2 ≤ length (split_on tab l) → of l ≡ none) → (next : A → Option B) (x : Option B)
-      → told r ≡ of bs → r ≡ s → x ≡ on (told s) next → x ≡ last of next (split_on tab bs)
+  whole : ((l : List ℕ) → 2 ≤ length (split_on tab l) → of l ≡ None) → (next : A → Option B)
+      → r ≡ of bs → x ≡ after r next → x ≡ last of next (split_on tab bs)
   unfolding last
-  whole clean next x t k y = elim (dec_lt 1 (length (split_on tab bs))) [
-    | yes h ↦ y ∙ on-after (told s) next ∙ rw (last_of_several of next (split_on tab bs) h, ← k, t, clean bs h)
-    | no h ↦ rw (split_one tab bs (omega (arith, split-some tab bs)), ← t, k) (y ∙ on-after (told s) next)
+  whole clean next t y = elim (dec_lt 1 (length (split_on tab bs))) [
+    | yes h ↦ y ∙ rw (last_of_several of next (split_on tab bs) h, t, clean bs h)
+    | no h ↦ rw (split_one tab bs (omega (arith, split-some tab bs)), ← t) y
   ]
+
+  pub last_next : ((l : List ℕ) → 2 ≤ length (split_on tab l) → of l ≡ None) → (next : A → Option B) (v : A)
+      → r ≡ of bs → r ≡ Some v → x ≡ next v → x ≡ last of next (split_on tab bs)
+  last_next clean next v t k y = whole clean next t (rw k y)
+
+  pub last_none : ((l : List ℕ) → 2 ≤ length (split_on tab l) → of l ≡ None) → (next : A → Option B)
+      → r ≡ of bs → r ≡ None → x ≡ None → x ≡ last of next (split_on tab bs)
+  last_none clean next t k y = whole clean next t (rw k y)
 
 -- a tab is in no word
 other_word : (bs w : List ℕ) → 2 ≤ length (split_on tab bs) → length (split_on tab w) ≡ 1 → same_bytes bs w ≡ false
@@ -275,20 +273,37 @@ other_word bs w h k = go (same_bytes bs w) refl
     go true e = let same = ap (λ (l : List ℕ). length (split_on tab l)) (same_eq bs w e) in absurd (omega arith)
     go false e = e
 
-pub entry_type-tab : (bs : List ℕ) → 2 ≤ length (split_on tab bs) → entry_type_of bs ≡ none
+pub entry_type-tab : (bs : List ℕ) → 2 ≤ length (split_on tab bs) → entry_type_of bs ≡ None
 entry_type-tab bs h = rw (other_word bs (112 ∷ []) h refl, other_word bs (111 ∷ []) h refl)
 
-pub split-tab : (bs : List ℕ) → 2 ≤ length (split_on tab bs) → split_of bs ≡ none
+pub split-tab : (bs : List ℕ) → 2 ≤ length (split_on tab bs) → split_of bs ≡ None
 split-tab bs h = rw (other_word bs (121 ∷ []) h refl, other_word bs (110 ∷ []) h refl)
 
-pub optional-tab : (bs : List ℕ) → 2 ≤ length (split_on tab bs) → optional_of bs ≡ none
+pub optional-tab : (bs : List ℕ) → 2 ≤ length (split_on tab bs) → optional_of bs ≡ None
 optional-tab bs h = rw (other_word bs absent h refl, number-tab bs h)
 
+-- the fields in front of those that `pool_behind` and `get_behind` take, read
+pub pool_front : (bs kind behind_kind pages behind_pages : List ℕ) (o : Option Vtl2GpaPoolConfig) (config : Vtl2GpaPoolConfig)
+    (r : Option (Option ℕ × Bor (List ℕ))) (host : Option ℕ × Bor (List ℕ)) (x : Option Record)
+    → kind ≡ first_part tab bs → behind_kind ≡ drop (length kind + 1) bs → pages ≡ first_part tab behind_kind
+    → behind_pages ≡ drop (length pages + 1) behind_kind → o ≡ config_of kind pages → o ≡ Some config
+    → Taken (first_of optional_of behind_pages) behind_pages r → r ≡ Some host
+    → x ≡ pool_behind config host.0 (split_on tab (host.1).now) → x ≡ pool_of (split_on tab bs)
+pool_front bs kind behind_kind pages behind_pages o config r host x e1 e2 e3 e4 e5 e6 e7 e8 p =
+    search (of-pool, cut-next, answered, empty-first, empty-after, part_next) depth 7 fits 3000
+
+pub get_front : (bs : List ℕ) (q : Option (Option ℕ × Bor (List ℕ))) (node : Option ℕ × Bor (List ℕ)) (o : Option (Option ℕ)) (vnode : Option ℕ)
+    (r : Option (ℕ × Bor (List ℕ))) (len : ℕ × Bor (List ℕ)) (x : Option Record)
+    → Taken (first_of optional_of bs) bs q → q ≡ Some node → o ≡ optional_node_from node.0 → o ≡ Some vnode
+    → Taken (first_of number_of (node.1).now) (node.1).now r → r ≡ Some len
+    → x ≡ get_behind vnode len.0 (split_on tab (len.1).now) → x ≡ get_of (split_on tab bs)
+get_front bs q node o vnode r len x e1 e2 e3 e4 e5 e6 p = search (of_get, part_next, answered) depth 7 fits 3000
+
 -- a word makes no record with no field behind it, nor with an empty one
-no_fields : (w : List ℕ) → record_for w [] ≡ none
+no_fields : (w : List ℕ) → record_for w [] ≡ None
 no_fields w = simp none_either
 
-empty-field : (w : List ℕ) → record_for w ([] ∷ []) ≡ none
+empty-field : (w : List ℕ) → record_for w ([] ∷ []) ≡ None
 empty-field w = simp none_either
 
 pub of_line : (bs w rest : List ℕ) (x : Option Record) → w ≡ first_part tab bs → rest ≡ drop (length w + 1) bs

@@ -1,5 +1,6 @@
 -- Laws for the placement of the pieces of a split: what they come to from any one of them on, and what the table and the
 -- array of ranges are between two of them.
+use Rattle.std.specs.Prelude.{Ok}
 use Prim.Native.Nat.{ℕ, zero, suc, ◌+◌, ◌-◌, ◌*◌, ◌/◌, ◌%◌, ◌≤◌, ◌<◌}
 use mathlib.Core.Bool.{Bool, true, false, cond}
 use mathlib.Core.Path.{◌≡◌, refl, ap, sym, ◌∙◌}
@@ -12,12 +13,12 @@ use borrow.Author.Tests.{eq-eqb, ne_eqb}
 use lib.Dec.{eqb}
 use lib.ListN.{length, take, drop, get_or, set, length-drop, length-set, drop_of_length-le, take-append-drop}
 use lib.Seq.{length-take-le, drop-append-add, drop-drop, drop-cons, take-suc-set, drop-set-lt}
+use Rattle.refusal.specs.declared.Refusal.{Refusal}
 use Rattle.address_space.specs.declared.request.AllocatedRange.{AllocatedRange}
 use Rattle.address_space.specs.declared.table.AddressRange.{AddressRange}
 use Rattle.address_space.specs.declared.table.AddressSpaceManager.{AddressSpaceManager}
 use Rattle.address_space.specs.Request as request
 use Rattle.address_space.specs.Table.{entries_of, table_with}
-use Rattle.private_pool.specs.declared.pool.PoolPlaced.TheVariants.{Ranges}
 use Rattle.private_pool.specs.declared.pool.PrivatePool.{PrivatePool}
 use Rattle.private_pool.specs.Piece.{PoolPiece, piece, pieces_from, split_pieces}
 use Rattle.private_pool.specs.Pool.{Placement, refused, placed, piece_on, in_front, piece_refusal, place_pieces, no_ranges, pool_as}
@@ -33,7 +34,7 @@ prefixed_more : (xs : List AllocatedRange) (x : AllocatedRange) (o : Placement) 
 prefixed_more [] x o = refl
 prefixed_more (y ∷ xs) x o = ap (in_front y) (prefixed_more xs x o)
 
-prefixed_refused : (xs : List AllocatedRange) (n : ℕ) → prefixed xs (refused n) ≡ refused n
+prefixed_refused : (xs : List AllocatedRange) (n : Refusal) → prefixed xs (refused n) ≡ refused n
 prefixed_refused [] n = refl
 prefixed_refused (x ∷ xs) n = ap (in_front x) (prefixed_refused xs n)
 
@@ -126,7 +127,7 @@ module _ {m : AddressSpaceManager} {share remainder : ℕ} {ns : List ℕ} {firs
         ≡ prefixed (take i ranges) (place_pieces (next ∷ pieces_over share remainder (drop (i + 1) ns)) (entries_of current))
     at_next = c.whole ∙ rw (← counted, over-at share remainder ns i (omega arith))
 
-    pub placing_refused : {n : ℕ} → piece_on next (entries_of current) ≡ request.refused n
+    pub placing_refused : {n : Refusal} → piece_on next (entries_of current) ≡ request.refused n
         → place_pieces (pieces_over share remainder ns) (entries_of m) ≡ refused (piece_refusal n)
     placing_refused {n} e = at_next ∙ rw e (prefixed_refused (take i ranges) (piece_refusal n))
 
@@ -158,7 +159,7 @@ module _ {m : AddressSpaceManager} {share remainder : ℕ} {ns : List ℕ} {firs
 
   -- after the last one
   pub placing-all : (count : ℕ) → length ns ≡ count → i ≡ count → 0 < count → count ≤ length first → first ≡ no_ranges
-      → ◌≡◌ {A = PrivatePool} (record { answer = Ranges count; ranges = ranges; manager = current })
+      → ◌≡◌ {A = PrivatePool} (record { answer = Ok count; ranges = ranges; manager = current })
       (pool_as m (place_pieces (pieces_over share remainder ns) (entries_of m)))
   placing-all count e at h w none =
       let n : length (take i ranges) ≡ count = length-take-le i ranges (omega (arith, c.size)) ∙ at in

@@ -1,15 +1,13 @@
 -- Laws of the requests that a pool is placed by: one that is met leaves no fewer entries, and what its answer says of it.
-use Rattle.std.specs.Prelude.{ℕ, suc, ◌+◌, ◌≤◌, Bool, true, false, cond, ◌||◌, ◌≡◌, List, ◌∷◌, ◌++◌, ltb, length}
+use Rattle.std.specs.Prelude.{ℕ, suc, ◌+◌, ◌≤◌, Bool, true, false, cond, ◌||◌, ◌≡◌, List, ◌∷◌, ◌++◌, ltb, length, Option, Ok, Err}
 use Rattle.std.proofs.Math.Bool.{or-true}
 use Rattle.std.proofs.Math.Path.{refl}
 use Rattle.std.proofs.Common.{ap, ◌∙◌, arith, length-append}
+use Rattle.refusal.specs.declared.Refusal.{Refusal}
 use Rattle.refusal.specs.Number.{table_full}
 use Rattle.host_params.specs.declared.AllocationPolicy.{AllocationPolicy}
 use Rattle.host_params.specs.declared.AllocationType.{AllocationType}
 use Rattle.host_params.specs.declared.AllocationType.TheVariants.{GpaPool}
-use Rattle.host_params.specs.declared.OptionU32.{OptionU32}
-use Rattle.host_params.specs.declared.OptionU64.{OptionU64}
-use Rattle.address_space.specs.declared.request.Allocated.TheVariants.{Range, Refused}
 use Rattle.address_space.specs.declared.request.AllocatedRange.{AllocatedRange}
 use Rattle.address_space.specs.declared.request.Allocation.{Allocation}
 use Rattle.address_space.specs.declared.table.AddressRange.{AddressRange}
@@ -30,7 +28,7 @@ placed-as true y x l es h = cc
 placed-as false y x l es h = cc
 
 -- a request that is met leaves no fewer entries
-module _ (asked : OptionU32) (len : ℕ) (type : AllocationType) (policy : AllocationPolicy) (alignment : OptionU64) (es : List AddressRange) where
+module _ (asked : Option ℕ) (len : ℕ) (type : AllocationType) (policy : AllocationPolicy) (alignment : Option ℕ) (es : List AddressRange) where
   handed_from : (x : AllocatedRange) (es' : List AddressRange) (s : Search AddressRange) → searched policy (fits_in asked len alignment) es ≡ s
       → placed_from len type policy alignment s ≡ handed x es' → length es ≤ length es'
   handed_from x es' nothing e h = absurd (let z : ◌≡◌ {A = ℕ} 0 1 = cc in omega arith)
@@ -56,7 +54,7 @@ module _ (asked : OptionU32) (len : ℕ) (type : AllocationType) (policy : Alloc
 
 -- what an answer says of the request: its range, with the entries of the table that comes with it; or its refusal
 module _ (m : AddressSpaceManager) where
-  as-range : (o : Outcome) (x : AllocatedRange) → (allocation_as m GpaPool o).answer ≡ Range x
+  as-range : (o : Outcome) (x : AllocatedRange) → (allocation_as m GpaPool o).answer ≡ Ok x
       → let after = (allocation_as m GpaPool o).manager in
       (o ≡ handed x (entries_of after)) × (after ≡ table_with m (entries_of after) true)
   as-range (refused n) x h = absurd (let z : ◌≡◌ {A = ℕ} 0 1 = cc in omega arith)
@@ -64,14 +62,14 @@ module _ (m : AddressSpaceManager) where
       let same : y ≡ x = cc in
       (rw (entries_with m es (pool_of m || true), same), rw (entries_with m es (pool_of m || true), or-true (pool_of m)))
 
-  pub answered-range : {a : Allocation} (o : Outcome) {x : AllocatedRange} → a ≡ allocation_as m GpaPool o → a.answer ≡ Range x
+  pub answered-range : {a : Allocation} (o : Outcome) {x : AllocatedRange} → a ≡ allocation_as m GpaPool o → a.answer ≡ Ok x
       → (o ≡ handed x (entries_of a.manager)) × (a.manager ≡ table_with m (entries_of a.manager) true)
   answered-range o {x} e h = rw e (as-range o x (rw e at h))
 
-  as_refused : (o : Outcome) (n : ℕ) → (allocation_as m GpaPool o).answer ≡ Refused n → o ≡ refused n
+  as_refused : (o : Outcome) (n : Refusal) → (allocation_as m GpaPool o).answer ≡ Err n → o ≡ refused n
   as_refused (refused k) n h = cc
   as_refused (handed y es) n h = cc
 
-  pub answered_refusal : {a : Allocation} (o : Outcome) {n : ℕ} → a ≡ allocation_as m GpaPool o → a.answer ≡ Refused n
+  pub answered_refusal : {a : Allocation} (o : Outcome) {n : Refusal} → a ≡ allocation_as m GpaPool o → a.answer ≡ Err n
       → o ≡ refused n
   answered_refusal o {n} e h = as_refused o n (rw e at h)

@@ -1,18 +1,24 @@
 -- Laws of the placement: what it comes to by the tests of the code.
-use Rattle.std.specs.Prelude.{ℕ, ◌≤◌, ◌<◌, Bool, true, false, ◌≡◌, List, [], ◌∷◌, eqb, length, drop}
+use Rattle.std.specs.Prelude.{ℕ, ◌≤◌, ◌<◌, Bool, true, false, ◌≡◌, refl, List, [], ◌∷◌, eqb, length, drop, Ok}
 use Rattle.std.proofs.Math.Bool.{or-true}
 use Rattle.std.proofs.Common.{ap, ◌∙◌}
 use borrow.Author.Tests.{eq-eqb, ne_eqb, lt-ltb, le-ltb, le-leb, lt-leb}
+use Rattle.refusal.specs.declared.Refusal.{Refusal}
+use Rattle.refusal.specs.declared.Refusal.TheVariants as refusals
 use Rattle.refusal.specs.Number.{no_fit, pool_too_large, pool_split}
 use Rattle.address_space.specs.declared.request.AllocatedRange.{AllocatedRange}
 use Rattle.address_space.specs.declared.table.AddressRange.{AddressRange}
 use Rattle.address_space.specs.declared.table.AddressSpaceManager.{AddressSpaceManager}
 use Rattle.address_space.specs.Request as request
 use Rattle.address_space.specs.Table.{entries_of, table_with}
-use Rattle.private_pool.specs.declared.pool.PoolPlaced.TheVariants.{Ranges}
 use Rattle.private_pool.specs.declared.pool.PrivatePool.{PrivatePool}
 use Rattle.private_pool.specs.Piece.{table_nodes, piece, split_pieces}
-use Rattle.private_pool.specs.Pool.{refused, placed, piece_on, place_pieces, pages_bound, split_placed, whole_or, pool_placed, no_ranges, pool_as}
+use Rattle.private_pool.specs.Pool.{refused, placed, piece_on, place_pieces, pages_bound, is_no_fit, split_placed, whole_or, pool_placed, no_ranges, pool_as}
+
+-- any other refusal is not 25
+pub another : (r : Refusal) → (r ≡ no_fit → ⊥) → is_no_fit r ≡ false
+another refusals.NoFit h = absurd (h refl)
+another r h = refl
 
 -- the split by the tests of the code: row 28 twice, or the pieces
 module _ (pages : ℕ) (es : List AddressRange) where
@@ -53,19 +59,19 @@ module _ (pages : ℕ) (split : Bool) (es : List AddressRange) where
           → pool_placed pages split es ≡ placed (x ∷ []) es'
       pool_whole e = pool_tried ∙ rw e
 
-      pub pool-split : {n : ℕ} → piece_on (piece 0 pages) es ≡ request.refused n → n ≡ no_fit
+      pub pool-split : {r : Refusal} → piece_on (piece 0 pages) es ≡ request.refused r → r ≡ no_fit
           → pool_placed pages split es ≡ split_placed pages es
-      pool-split {n} e h = pool_tried ∙ rw (e, eq-eqb n no_fit h)
+      pool-split e h = pool_tried ∙ rw (e, h)
 
-      pub pool_refused : {n : ℕ} → piece_on (piece 0 pages) es ≡ request.refused n → (n ≡ no_fit → ⊥)
-          → pool_placed pages split es ≡ refused n
-      pool_refused {n} e h = pool_tried ∙ rw (e, ne_eqb n no_fit h)
+      pub pool_refused : {r : Refusal} → piece_on (piece 0 pages) es ≡ request.refused r → (r ≡ no_fit → ⊥)
+          → pool_placed pages split es ≡ refused r
+      pool_refused {r} e h = pool_tried ∙ rw (e, another r h)
 
 -- the answer of one range, with the table that it was placed in
 pub one-range : (m after : AddressSpaceManager) (x : AllocatedRange) → after ≡ table_with m (entries_of after) true
-    → ◌≡◌ {A = PrivatePool} (record { answer = Ranges 1; ranges = x ∷ drop 1 no_ranges; manager = after }) (pool_as m (placed (x ∷ []) (entries_of after)))
+    → ◌≡◌ {A = PrivatePool} (record { answer = Ok 1; ranges = x ∷ drop 1 no_ranges; manager = after }) (pool_as m (placed (x ∷ []) (entries_of after)))
 one-range m after x t =
     ap one_range t
   where
     one_range : AddressSpaceManager → PrivatePool
-    one_range w = record { answer = Ranges 1; ranges = x ∷ drop 1 no_ranges; manager = w }
+    one_range w = record { answer = Ok 1; ranges = x ∷ drop 1 no_ranges; manager = w }

@@ -1,10 +1,9 @@
 -- Steps to the laws of the walk: boundaries counted. Item i of a list in order holds a byte exactly where
 -- 2i + 1 of the list's boundaries are at or below the byte; and merging two ascending lists of boundaries
 -- gives one that ascends and has the same boundaries.
-use Rattle.std.specs.Prelude.{ℕ, suc, ◌+◌, ◌*◌, ◌/◌, ◌%◌, ◌≤◌, ◌<◌, ◌≡◌, refl, Bool, true, false, cond, List, [], ◌∷◌, leb, length}
+use Rattle.std.specs.Prelude.{ℕ, suc, ◌+◌, ◌*◌, ◌/◌, ◌%◌, ◌≤◌, ◌<◌, ◌≡◌, refl, Bool, true, false, cond, List, [], ◌∷◌, leb, length, Some, None}
 use Rattle.std.proofs.Common.{ap, sym, ◌∙◌, arith, leb-true, leb-false, lt-ltb, le-ltb, le-leb, eq-eqb, ne_eqb}
 use Rattle.std.proofs.Math.Bool.{and-false}
-use Rattle.std.proofs.Math.Option.{none, some}
 use Rattle.std.proofs.lemmas.Bool.{lt-leb}
 use Rattle.memory_range.specs.declared.range.MemoryRange.{MemoryRange}
 use Rattle.memory_range.specs.Bytes.{item_found_from, Ordered, All}
@@ -118,13 +117,13 @@ pub merged_lists : (ls rs : List MemoryRange) → Ordered 0 ls → Ordered 0 rs
 merged_lists ls rs ol or = merged 0 (boundaries ls) (boundaries rs) (boundaries-ascend 0 ls ol) (boundaries-ascend 0 rs or)
 
 -- which item is open: none after an even number of boundaries or after all, item i after 2i + 1
-open_even : (n k : ℕ) → k % 2 ≡ 0 → open_item n k ≡ none
+open_even : (n k : ℕ) → k % 2 ≡ 0 → open_item n k ≡ None
 open_even n k h = rw (ne_eqb (k % 2) 1 (omega arith))
 
-open_odd : (n i k : ℕ) → i < n → k ≡ 2 * i + 1 → open_item n k ≡ some i
-open_odd n i k h e = rw (eq-eqb (k % 2) 1 (omega arith), lt-ltb (k / 2) n (omega arith)) (ap some (omega arith))
+open_odd : (n i k : ℕ) → i < n → k ≡ 2 * i + 1 → open_item n k ≡ Some i
+open_odd n i k h e = rw (eq-eqb (k % 2) 1 (omega arith), lt-ltb (k / 2) n (omega arith)) (ap Some (omega arith))
 
-pub open-past : (n k : ℕ) → 2 * n ≤ k → open_item n k ≡ none
+pub open-past : (n k : ℕ) → 2 * n ≤ k → open_item n k ≡ None
 open-past n k h = rw (le-ltb (k / 2) n (omega arith), and-false)
 
 -- the item that holds a byte is the one open behind the boundaries at or below the byte

@@ -1,5 +1,5 @@
 -- Laws of the entries of a map that is lent as slices, and of a walk over their ranges.
-use Rattle.std.specs.Prelude.{ℕ, zero, suc, ◌<◌, ◌≡◌, refl, List, [], ◌∷◌, length, take, get_or}
+use Rattle.std.specs.Prelude.{ℕ, zero, suc, ◌<◌, ◌≡◌, refl, List, [], ◌∷◌, length, take, get_or, Option, Some}
 use Rattle.std.proofs.Common.{ap, ◌∙◌, arith}
 use Rattle.std.proofs.lemmas.List.{length-map}
 use Rattle.memory_range.specs.declared.range.MemoryRange.{MemoryRange}
@@ -7,8 +7,6 @@ use Rattle.memory_range.specs.declared.range.TaggedRange.{TaggedRange}
 use Rattle.range_lists.specs.declared.walk.RangeWalkResult.{RangeWalkResult}
 use Rattle.range_lists.specs.declared.walk.WalkCursor.{WalkCursor}
 use Rattle.range_lists.specs.declared.walk.WalkPiece.{WalkPiece}
-use Rattle.range_lists.specs.declared.walk.WalkStep.{WalkStep}
-use Rattle.range_lists.specs.declared.walk.WalkStep.TheVariants.{Piece}
 use Rattle.memory_range.specs.Bytes.{All}
 use Rattle.memory_range.specs.List.{ranges_in, ranges_of, tagged_of, tags_of}
 use Rattle.memory_range.specs.Range.{range}
@@ -34,14 +32,14 @@ tag-tagged (s ∷ ss) (e ∷ es) (t ∷ ts) zero h = refl
 tag-tagged (s ∷ ss) (e ∷ es) (t ∷ ts) (suc j) h = tag-tagged ss es ts j (omega arith)
 
 -- a step of a walk with as many starts and ends as there are entries is one of the walk with the entries
-pub entries_step : (ls : List MemoryRange) (ss es ts : List ℕ) (at : WalkCursor) (step : WalkStep) {n : ℕ} → n ≡ length (tagged_of ss es ts)
+pub entries_step : (ls : List MemoryRange) (ss es ts : List ℕ) (at : WalkCursor) (step : (Option (WalkPiece × WalkCursor))) {n : ℕ} → n ≡ length (tagged_of ss es ts)
     → let rs = ranges_of (take n ss) (take n es) in walk_from ls rs at ≡ walk_stepped ls rs step
     → let rs = ranges_in (tagged_of ss es ts) in walk_from ls rs at ≡ walk_stepped ls rs step
 entries_step ls ss es ts at step e h = rw (e, ranges-tagged ss es ts) at h
 
 -- the next piece of a walk, with the items that hold it
-pub next-piece : (ls rs : List MemoryRange) (at : WalkCursor) {next : WalkCursor} {step : WalkStep} {p : WalkPiece} {x : RangeWalkResult}
-    → walk_from ls rs at ≡ walk_stepped ls rs step → step ≡ Piece p next → p.result ≡ x
+pub next-piece : (ls rs : List MemoryRange) (at : WalkCursor) {next : WalkCursor} {step : (Option (WalkPiece × WalkCursor))} {p : WalkPiece} {x : RangeWalkResult}
+    → walk_from ls rs at ≡ walk_stepped ls rs step → step ≡ Some (p, next) → p.result ≡ x
     → walk_from ls rs at ≡ record { range = p.range; result = x } ∷ walk_from ls rs next
 next-piece ls rs at {next} {p = p} h s r =
     h ∙ ap (walk_stepped ls rs) s ∙ ap (λ (y : RangeWalkResult). record { range = p.range; result = y } ∷ walk_from ls rs next) r

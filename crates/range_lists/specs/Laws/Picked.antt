@@ -1,8 +1,7 @@
 -- Pieces picked by what they say: they are in order if all pieces are, and a byte lies in one of them
 -- exactly where what the pieces say of it is picked.
-use Rattle.std.specs.Prelude.{ℕ, ◌<◌, ◌≡◌, refl, Bool, true, false, cond, List, [], ◌∷◌}
+use Rattle.std.specs.Prelude.{ℕ, ◌<◌, ◌≡◌, refl, Bool, true, false, cond, List, [], ◌∷◌, Option, Some, None}
 use Rattle.std.proofs.Common.{ap, ◌∙◌, arith}
-use Rattle.std.proofs.Math.Option.{Option, none, some}
 use Rattle.memory_range.specs.declared.range.MemoryRange.{MemoryRange}
 use Rattle.range_lists.specs.declared.walk.RangeWalkResult.{RangeWalkResult}
 use Rattle.range_lists.specs.declared.walk.WalkPiece.{WalkPiece}
@@ -19,8 +18,8 @@ picked f (p ∷ ps) = cond (f p.result) (p.range ∷ picked f ps) (picked f ps)
 
 -- 1 where there is something that passes f, and else 0
 abbrev pub counted_if : {A : Type 0} → (A → Bool) → Option A → ℕ
-counted_if f none = 0
-counted_if f (some x) = cond (f x) 1 0
+counted_if f None = 0
+counted_if f (Some x) = cond (f x) 1 0
 
 module _ (f : RangeWalkResult → Bool) where
   pub picked-ordered : (a : ℕ) (ps : List WalkPiece) → Ordered a (piece_ranges ps) → Ordered a (picked f ps)

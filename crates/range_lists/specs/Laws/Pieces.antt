@@ -1,10 +1,9 @@
 -- Steps to the laws of the walk: what a list of pieces says of each byte, and that the pieces of a sweep
 -- say of a byte which items are open behind the boundaries at or below it. That is shown by induction
 -- along the merged boundaries, one piece at a time.
-use Rattle.std.specs.Prelude.{ℕ, suc, ◌+◌, ◌*◌, ◌≤◌, ◌<◌, ◌≡◌, refl, Bool, true, false, cond, List, [], ◌∷◌, ◌++◌, map, ltb, length}
+use Rattle.std.specs.Prelude.{ℕ, suc, ◌+◌, ◌*◌, ◌≤◌, ◌<◌, ◌≡◌, refl, Bool, true, false, cond, List, [], ◌∷◌, ◌++◌, map, ltb, length, Option, Some, None}
 use Rattle.std.proofs.Common.{sym, ◌∙◌, arith, ltb-true, ltb-false, lt-ltb, le-ltb, le-leb}
 use Rattle.std.proofs.Math.Bool.{and-false}
-use Rattle.std.proofs.Math.Option.{Option, none, some}
 use Rattle.std.proofs.lemmas.Bool.{lt-leb}
 use Rattle.memory_range.specs.declared.range.MemoryRange.{MemoryRange}
 use Rattle.range_lists.specs.declared.walk.RangeWalkResult.{RangeWalkResult}
@@ -21,11 +20,11 @@ piece_ranges = map (λ p. p.range)
 
 -- what the first piece that holds the byte at a says
 abbrev pub result_at : List WalkPiece → ℕ → Option RangeWalkResult
-result_at [] a = none
-result_at (p ∷ ps) a = cond (holds p.range a) (some p.result) (result_at ps a)
+result_at [] a = None
+result_at (p ∷ ps) a = cond (holds p.range a) (Some p.result) (result_at ps a)
 
 -- pieces in order from a say nothing of a byte below a
-pub result-none : (a : ℕ) (ps : List WalkPiece) (x : ℕ) → Ordered a (piece_ranges ps) → x < a → result_at ps x ≡ none
+pub result-none : (a : ℕ) (ps : List WalkPiece) (x : ℕ) → Ordered a (piece_ranges ps) → x < a → result_at ps x ≡ None
 result-none a [] x o h = refl
 result-none a (p ∷ ps) x o h = rw (lt-leb p.range.start x (omega arith)) (result-none p.range.end ps x o.1.1 (omega arith))
 
@@ -36,11 +35,11 @@ holders-pieces a (p ∷ ps) x o = holders-cons a p.range (piece_ranges ps) x p.r
 
 -- each of the pieces says of its bytes what they say together
 pub pieces_say : (f : ℕ → Option RangeWalkResult) (a : ℕ) (ps : List WalkPiece) → Ordered a (piece_ranges ps)
-    → ((x : ℕ) → a ≤ x → result_at ps x ≡ f x) → All (λ p. (x : ℕ) → holds p.range x ≡ true → f x ≡ some p.result) ps
+    → ((x : ℕ) → a ≤ x → result_at ps x ≡ f x) → All (λ p. (x : ℕ) → holds p.range x ≡ true → f x ≡ Some p.result) ps
 pieces_say f a [] o says = tt
 pieces_say f a (p ∷ ps) o says = (here, pieces_say f p.range.end ps o.1.1 later)
   where
-    here : (x : ℕ) → holds p.range x ≡ true → f x ≡ some p.result
+    here : (x : ℕ) → holds p.range x ≡ true → f x ≡ Some p.result
     here x h = sym (says x (omega (arith, (held p.range x).0 h))) ∙ rw h
 
     later : (x : ℕ) → p.range.end ≤ x → result_at ps x ≡ f x
@@ -56,14 +55,14 @@ open-same n m i j p q ei ej = rw (ei, ej)
 -- what a sweep puts in front of the pieces ps from b on: nothing where no item is open between a and b or
 -- no byte lies there, and else one piece
 data Next (a b : ℕ) (r : Option RangeWalkResult) (ps : List WalkPiece) : List WalkPiece → Type 0 where
-  skip : (a < b → r ≡ none) → Next a b r ps ps
-  yield : (h : RangeWalkResult) → r ≡ some h → a < b → Next a b r ps (record { range = range a b; result = h } ∷ ps)
+  skip : (a < b → r ≡ None) → Next a b r ps ps
+  yield : (h : RangeWalkResult) → r ≡ Some h → a < b → Next a b r ps (record { range = range a b; result = h } ∷ ps)
 
 next : (a b : ℕ) (r : Option RangeWalkResult) (ps : List WalkPiece) → Next a b r ps (piece_of a b r ++ ps)
-next a b none ps = skip (λ l. refl)
-next a b (some h) ps = go (ltb a b) refl
+next a b None ps = skip (λ l. refl)
+next a b (Some h) ps = go (ltb a b) refl
   where
-    go : (t : Bool) → ltb a b ≡ t → Next a b (some h) ps (cond t (record { range = range a b; result = h } ∷ []) [] ++ ps)
+    go : (t : Bool) → ltb a b ≡ t → Next a b (Some h) ps (cond t (record { range = range a b; result = h } ∷ []) [] ++ ps)
     go true p = yield h refl (ltb-true a b p)
     go false p = skip (λ l. absurd (omega (arith, ltb-false a b p)))
 
@@ -114,7 +113,7 @@ sweep-at n m i j p q x (next_right_of {a} {c} {cs} {ms} l t) h ep eq ln lm =
 -- along any boundaries: each piece names items that are open somewhere, and there are no more pieces than
 -- boundaries
 abbrev pub FromOpen : ℕ → ℕ → WalkPiece → Type 0
-FromOpen n m p = (i : ℕ) × (j : ℕ) × (open_result n m i j ≡ some p.result)
+FromOpen n m p = (i : ℕ) × (j : ℕ) × (open_result n m i j ≡ Some p.result)
 
 piece_open : (n m a b i j : ℕ) (ps : List WalkPiece) {qs : List WalkPiece} → Next a b (open_result n m i j) ps qs
     → All (FromOpen n m) ps → All (FromOpen n m) qs
@@ -144,11 +143,11 @@ module _ (P : ℕ → Type 0) where
   Ends p = P p.range.start × P p.range.end
 
   piece-ends : {a b : ℕ} {r : Option RangeWalkResult} {ps qs : List WalkPiece} → Next a b r ps qs
-      → ((h : RangeWalkResult) → r ≡ some h → P a) → P b → All Ends ps → All Ends qs
+      → ((h : RangeWalkResult) → r ≡ Some h → P a) → P b → All Ends ps → All Ends qs
   piece-ends (skip e) s t rest = rest
   piece-ends (yield h e l) s t rest = ((s h e, t), rest)
 
-  pub sweep-ends : (n m a i j : ℕ) (ms : List Boundary) → ((h : RangeWalkResult) → open_result n m i j ≡ some h → P a)
+  pub sweep-ends : (n m a i j : ℕ) (ms : List Boundary) → ((h : RangeWalkResult) → open_result n m i j ≡ Some h → P a)
       → All (λ b. P (address b)) ms → All Ends (sweep n m a i j ms)
   sweep-ends n m a i j [] s t = tt
   sweep-ends n m a i j (left b ∷ ms) s t =

@@ -1,9 +1,8 @@
 -- What the difference of two lists of ranges means. For lists in order: its parts are in order, hold the
 -- bytes of the first list that the second does not hold, and lie inside the items that they name. For
 -- any lists: those items exist. Each follows from the law of the walk of the same kind.
-use Rattle.std.specs.Prelude.{ℕ, ◌-◌, ◌<◌, ◌≡◌, refl, Bool, true, false, cond, List, [], ◌∷◌, ◌++◌, map, length}
+use Rattle.std.specs.Prelude.{ℕ, ◌-◌, ◌<◌, ◌≡◌, refl, Bool, true, false, cond, List, [], ◌∷◌, ◌++◌, map, length, Option, Some, None}
 use Rattle.std.proofs.Common.{ap, ap₂, sym, ◌∙◌}
-use Rattle.std.proofs.Math.Option.{Option, none, some}
 use Rattle.memory_range.specs.declared.range.MemoryRange.{MemoryRange}
 use Rattle.range_lists.specs.declared.subtract.Remainder.{Remainder}
 use Rattle.range_lists.specs.declared.walk.RangeWalkResult.{RangeWalkResult}
@@ -23,7 +22,7 @@ remainder_ranges = map (λ r. r.range)
 
 -- the part lies inside the item of the list that it names
 abbrev pub PartOf : List MemoryRange → Remainder → Type 0
-PartOf ls r = (a : ℕ) → holds r.range a ≡ true → item_at ls a ≡ some r.item
+PartOf ls r = (a : ℕ) → holds r.range a ≡ true → item_at ls a ≡ Some r.item
 
 -- whether the left list alone holds the piece: the parts are the pieces picked by this
 abbrev pub left_only : RangeWalkResult → Bool
@@ -42,10 +41,10 @@ remainders-picked (p ∷ ps) = go p.result (remainders-picked ps)
     go (Both i j) e = e
 
 held-left_only : (u v : Option ℕ) → counted_if left_only (held_by u v) ≡ counted u - counted v
-held-left_only none none = refl
-held-left_only (some i) none = refl
-held-left_only none (some j) = refl
-held-left_only (some i) (some j) = refl
+held-left_only None None = refl
+held-left_only (Some i) None = refl
+held-left_only None (Some j) = refl
+held-left_only (Some i) (Some j) = refl
 
 -- what holds of the pieces that the left list alone holds, as parts, holds of all parts
 remainders-all : (P : WalkPiece → Type 0) (Q : Remainder → Type 0)

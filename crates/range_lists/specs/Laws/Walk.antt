@@ -1,10 +1,9 @@
 -- What the walk of two lists of ranges means. For lists in order: its pieces are in order, cover the
 -- bytes of both lists and no others, and name the items that hold them. For any lists: the items that
 -- pieces name exist, there are at most two pieces for each item, and they start and end where items do.
-use Rattle.std.specs.Prelude.{ℕ, ◌+◌, ◌*◌, ◌/◌, ◌%◌, ◌≤◌, ◌<◌, max, ◌≡◌, refl, Bool, true, false, cond, List, eqb, ltb, length, drop}
+use Rattle.std.specs.Prelude.{ℕ, ◌+◌, ◌*◌, ◌/◌, ◌%◌, ◌≤◌, ◌<◌, max, ◌≡◌, refl, Bool, true, false, cond, List, eqb, ltb, length, drop, Option, Some, None}
 use Rattle.std.proofs.Common.{ap, ap₂, sym, ◌∙◌, arith, ltb-true}
 use Rattle.std.proofs.Math.Bool.{and-eq-true_iff}
-use Rattle.std.proofs.Math.Option.{Option, none, some}
 use Rattle.memory_range.specs.declared.range.MemoryRange.{MemoryRange}
 use Rattle.range_lists.specs.declared.walk.RangeWalkResult.{RangeWalkResult}
 use Rattle.range_lists.specs.declared.walk.RangeWalkResult.TheVariants.{Left, Right, Both}
@@ -20,14 +19,14 @@ use Rattle.range_lists.specs.Laws.Pieces.{FromOpen, holders-pieces, pieces_say, 
 
 -- the item of the left list that a piece names, and that of the right one
 abbrev pub left_item : RangeWalkResult → Option ℕ
-left_item (Left i) = some i
-left_item (Right j) = none
-left_item (Both i j) = some i
+left_item (Left i) = Some i
+left_item (Right j) = None
+left_item (Both i j) = Some i
 
 abbrev pub right_item : RangeWalkResult → Option ℕ
-right_item (Left i) = none
-right_item (Right j) = some j
-right_item (Both i j) = some j
+right_item (Left i) = None
+right_item (Right j) = Some j
+right_item (Both i j) = Some j
 
 -- the piece lies inside the items that it names and outside all others
 abbrev pub Says : List MemoryRange → List MemoryRange → WalkPiece → Type 0
@@ -35,30 +34,30 @@ Says ls rs p = (a : ℕ) → holds p.range a ≡ true → (left_item p.result �
 
 -- the index, if there is one, is below n
 abbrev pub Below : ℕ → Option ℕ → Type 0
-Below n none = Unit {0}
-Below n (some i) = i < n
+Below n None = Unit {0}
+Below n (Some i) = i < n
 
 -- the items that the piece names exist in lists of n and m items
 abbrev pub InLists : ℕ → ℕ → WalkPiece → Type 0
 InLists n m p = Below n (left_item p.result) × Below m (right_item p.result)
 
 -- what a piece says names the open items
-held_names : (u v : Option ℕ) (h : RangeWalkResult) → held_by u v ≡ some h → (left_item h ≡ u) × (right_item h ≡ v)
-held_names none none h e = (cc, cc)
-held_names (some i) none h e = (cc, cc)
-held_names none (some j) h e = (cc, cc)
-held_names (some i) (some j) h e = (cc, cc)
+held_names : (u v : Option ℕ) (h : RangeWalkResult) → held_by u v ≡ Some h → (left_item h ≡ u) × (right_item h ≡ v)
+held_names None None h e = (cc, cc)
+held_names (Some i) None h e = (cc, cc)
+held_names None (Some j) h e = (cc, cc)
+held_names (Some i) (Some j) h e = (cc, cc)
 
 held-counted : (u v : Option ℕ) → counted (held_by u v) ≡ max (counted u) (counted v)
-held-counted none none = refl
-held-counted (some i) none = refl
-held-counted none (some j) = refl
-held-counted (some i) (some j) = refl
+held-counted None None = refl
+held-counted (Some i) None = refl
+held-counted None (Some j) = refl
+held-counted (Some i) (Some j) = refl
 
 open_below : (n k : ℕ) → Below n (open_item n k)
 open_below n k = go (is_open n k) refl
   where
-    go : (t : Bool) → is_open n k ≡ t → Below n (cond t (some (k / 2)) none)
+    go : (t : Bool) → is_open n k ≡ t → Below n (cond t (Some (k / 2)) None)
     go true e = ltb-true (k / 2) n ((and-eq-true_iff (eqb (k % 2) 1) (ltb (k / 2) n)).0 e).1
     go false e = tt
 

@@ -1,12 +1,12 @@
 -- Wrong answers of selection by words, each refuted (docs/PROVED.md).
-use Rattle.std.specs.Prelude.{ℕ, Bool, false, List, [], ◌∷◌, ◌≢◌, eqb}
+use Rattle.std.specs.Prelude.{Bool, false, List, [], ◌∷◌, ◌≢◌, eqb, Err}
 use Rattle.std.proofs.Common.{ap, true≢false}
 use Rattle.std.proofs.lemmas.Bool.{false≢true}
 use Rattle.memory_range.specs.Range.{range}
 use Rattle.host_params.specs.declared.MemoryEntry.{MemoryEntry}
 use Rattle.host_params.specs.declared.MemoryMapEntryType.TheVariants.{Vtl2Protectable}
 use Rattle.host_map.specs.Map.{is_protectable}
-use Rattle.vtl2_ram.specs.Choice.{refused}
+use Rattle.table_words.specs.declared.code.CallError.{CallError}
 use Rattle.selection_calls.specs.Selection.{word_entries, count_or}
 
 -- what the answers are told apart by
@@ -20,5 +20,5 @@ pub type_of_another :
 type_of_another e = false≢true (ap first_protectable e)
 
 -- a count stored on a refusal
-pub count-on_refusal : (n : ℕ) → count_or (refused n) 7 ≢ 0
+pub count-on_refusal : (n : CallError) → count_or (Err n) 7 ≢ 0
 count-on_refusal n e = true≢false (ap (eqb 7) e)

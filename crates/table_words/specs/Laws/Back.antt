@@ -1,7 +1,6 @@
 -- What is written is read back: the same entries and the same flag.
-use Rattle.std.specs.Prelude.{ℕ, ◌*◌, ◌≤◌, ◌<◌, ◌^◌, ◌≡◌, refl, Bool, true, false, List, [], ◌∷◌, ◌++◌, map, eqb, leb, length}
+use Rattle.std.specs.Prelude.{ℕ, ◌*◌, ◌≤◌, ◌<◌, ◌^◌, ◌≡◌, refl, Bool, true, false, List, [], ◌∷◌, ◌++◌, map, eqb, leb, length, Some}
 use Rattle.std.proofs.Common.{◌∙◌, arith, eq-eqb, le-leb, lt-ltb}
-use Rattle.std.proofs.Math.Option.{some}
 use Rattle.std.proofs.lemmas.List.Edits.{sets, sets-eq}
 use Rattle.std.proofs.Math.Seq.{length-sets}
 use Rattle.memory_range.specs.Bytes.{All}
@@ -50,7 +49,7 @@ entries-again (e ∷ es) h =
     (rw (lt-ltb e.vnode (2 ^ 32) h.0, u.1, i.0), rw (u.0, i.1))
 
 pub read_back : (ws : List ℕ) (es : List AddressRange) (flag : Bool) → length ws ≡ table_length → length es ≤ max_address_ranges
-    → All (λ e. e.vnode < 2 ^ 32) es → table_of (sets ws 0 (table_words_of es flag)) ≡ some (table es flag)
+    → All (λ e. e.vnode < 2 ^ 32) es → table_of (sets ws 0 (table_words_of es flag)) ≡ Some (table es flag)
 unfolding table_of
 read_back ws es flag room few nodes =
     let n = words-length es in

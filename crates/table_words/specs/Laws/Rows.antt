@@ -1,6 +1,9 @@
 -- Laws of rows: how many there are, and the row at an index.
-use Rattle.std.specs.Prelude.{ℕ, zero, suc, ◌+◌, ◌*◌, ◌-◌, ◌<◌, ◌≤◌, ◌≡◌, refl, List, ◌∷◌, length, take, drop}
-use Rattle.std.proofs.Common.{ap, ◌∙◌, mul-zero, mul-suc, add_comm, add-one, arith, length-drop, drop-drop, length-take-le}
+use Rattle.std.specs.Prelude.{ℕ, zero, suc, ◌+◌, ◌*◌, ◌/◌, ◌-◌, ◌<◌, ◌≤◌, ◌≡◌, refl, List, [], ◌∷◌, ◌++◌, length, take, drop}
+use Rattle.std.proofs.Common.{ap, sym, ◌∙◌, mul-zero, mul-one, mul-suc, add_comm, add-one, arith, length-drop, drop-drop, length-take-le}
+use Rattle.std.proofs.Math.Nat.{add-mul-div_left, div-eq_of_lt}
+use Rattle.std.proofs.Math.Seq.{take-append_seam, drop-append_seam}
+use Rattle.std.proofs.lemmas.List.{length-append}
 use Rattle.table_words.specs.Rows.{rows}
 
 module _ (width : ℕ) where
@@ -27,9 +30,22 @@ module _ (width : ℕ) where
   pub row-length : (ws : List ℕ) (at stop : ℕ) → stop ≡ at + width → stop ≤ length ws → length (take (stop - at) (drop at ws)) ≡ width
   row-length ws at stop f h = length-take-le (stop - at) (drop at ws) (omega (arith, length-drop at ws)) ∙ omega arith
 
--- the places behind an index, as stores one after the other have them
-pub add-two : (n : ℕ) → n + 2 ≡ suc (suc n)
-add-two n = omega arith
+  -- a row and those behind it, so many of them
+  pub row_before : (k : ℕ) (r ws : List ℕ) → length r ≡ width → rows width (suc k) (r ++ ws) ≡ r ∷ rows width k ws
+  row_before k r ws e =
+      let first : take width (r ++ ws) ≡ r = ap (λ n. take n (r ++ ws)) (sym e) ∙ take-append_seam r ws in
+      let others : drop width (r ++ ws) ≡ ws = ap (λ n. drop n (r ++ ws)) (sym e) ∙ drop-append_seam r ws in
+      rw (first, others)
 
-pub add-three : (n : ℕ) → n + 3 ≡ suc (suc (suc n))
-add-three n = omega arith
+  -- the same of all rows that words have, and where the words are too few for one
+  module _ (some : 0 < width) where
+    pub first_row : (r ws : List ℕ) → length r ≡ width
+        → rows width (length (r ++ ws) / width) (r ++ ws) ≡ r ∷ rows width (length ws / width) ws
+    first_row r ws e =
+        let n : length (r ++ ws) / width ≡ suc (length ws / width) =
+        rw (length-append r ws, e) (ap (λ k. k / width) (add_comm width (length ws) ∙ ap (λ k. length ws + k) (sym (mul-one width))) ∙ add-mul-div_left (length ws) 1 some ∙ omega arith)
+        in
+        rw n (row_before (length ws / width) r ws e)
+
+    pub no_row : (ws : List ℕ) → length ws < width → rows width (length ws / width) ws ≡ []
+    no_row ws h = rw (div-eq_of_lt h)

@@ -16,6 +16,11 @@ module _ {A : Type 0} where
   sets_out l k [] h = refl
   sets_out l k (v ∷ vs) h = rw (set_out l k v h) (sets_out l (suc k) vs (omega arith))
 
+  -- no more is stored than there is
+  pub sets_none : (l : List A) (k : ℕ) (vs : List A) → length vs ≡ 0 → sets l k vs ≡ l
+  sets_none l k [] h = refl
+  sets_none l k (v ∷ vs) h = absurd (omega arith)
+
   -- to store vs from place k on leads to that list
   pub record Stores (end : List A) (k : ℕ) (l vs : List A) : Type 0 where
     pub all : sets l k vs ≡ end

@@ -1,16 +1,12 @@
 -- Laws of boot mode: what the rows and the parts come to, by which of them refuses first.
-use Rattle.std.specs.Prelude.{ℕ, ◌≤◌, ◌<◌, ◌≡◌, refl, true, false, List, [], ◌∷◌, ◌++◌, length}
+use Rattle.std.specs.Prelude.{ℕ, ◌≤◌, ◌<◌, ◌≡◌, refl, true, false, List, [], ◌∷◌, ◌++◌, length, Option, Some, None, Result, Ok, Err}
 use Rattle.std.proofs.Common.{ap, arith, lt-ltb, le-ltb, length-append}
-use Rattle.std.proofs.Math.Option.{Option, none, some}
 use Rattle.memory_range.specs.declared.range.MemoryRange.{MemoryRange}
 use Rattle.memory_range.specs.declared.range.TaggedRange.{TaggedRange}
 use Rattle.memory_range.specs.List.{tags_of}
 use Rattle.memory_range.specs.Range.{length_of}
 use Rattle.range_lists.specs.Sort.{sort_by_start}
 use Rattle.host_params.specs.declared.IsolationType.{IsolationType}
-use Rattle.host_params.specs.declared.OptionU64.{OptionU64}
-use Rattle.host_params.specs.declared.OptionU64.TheVariants.{Some, None}
-use Rattle.refusal.specs.declared.answer.Counted.TheVariants as count
 use Rattle.boot_ram.specs.File.{file_walk}
 use Rattle.boot_ram.specs.Import.{imports_clear, import_walk}
 use Rattle.boot_nodes.specs.Node.{distinct, nodes_bad, nodes_counted, count_up}
@@ -23,24 +19,23 @@ use Rattle.boot_ram.specs.Laws.Judged.{WithinBounds}
 use Rattle.refusal.specs.Number.{node_numbers, ram_size_below_file, import_crosses_file}
 use Rattle.refusal.specs.Rows.{downward}
 use Rattle.refusal.specs.Laws.Rows.{not_refused, downward_last}
-use Rattle.vtl2_ram.specs.declared.boot.NodeShare.{NodeShare}
-use Rattle.vtl2_ram.specs.declared.boot.NodeShare.TheVariants.{Bytes, Refused}
 use Rattle.vtl2_ram.specs.Boot.{size_wanted, share_too_large_for, share_refusal, share_as, after_imports, beside_file, boot_parts, boot_choice}
 use Rattle.vtl2_ram.specs.Choice.{Choice, refused, chosen}
+use Rattle.refusal.specs.declared.Refusal.{Refusal}
 
 -- rows 8 and 9: a size below the file's is refused; else the share of the size, or of the file's, is the answer
 module _ (file : MemoryRange) (n : ℕ) where
-  abbrev pub share_for : OptionU64 → NodeShare
+  abbrev pub share_for : Option ℕ → Result ℕ Refusal
   share_for size = share_as (share_refusal size file n) (share_of (size_wanted size file) n)
 
-  abbrev share_alone : ℕ → NodeShare
+  abbrev share_alone : ℕ → Result ℕ Refusal
   share_alone size = share_as (share_too_large_for size n) (share_of size n)
 
   last_row : (size : ℕ) → share_as (downward (share_too_large_for size n ∷ [])) (share_of size n) ≡ share_alone size
-  last_row size = ap (λ (row : Option ℕ). share_as row (share_of size n)) (downward_last (share_too_large_for size n))
+  last_row size = ap (λ (row : Option Refusal). share_as row (share_of size n)) (downward_last (share_too_large_for size n))
 
-  module _ {option : OptionU64} where
-    pub share_below : {size : ℕ} → option ≡ Some size → size < length_of file → share_for option ≡ Refused ram_size_below_file
+  module _ {option : (Option ℕ)} where
+    pub share_below : {size : ℕ} → option ≡ Some size → size < length_of file → share_for option ≡ Err ram_size_below_file
     share_below {size} e h = rw (e, lt-ltb size (length_of file) h)
 
     pub share-given : {size : ℕ} → option ≡ Some size → length_of file ≤ size → share_for option ≡ share_alone size
@@ -52,12 +47,12 @@ module _ (file : MemoryRange) (n : ℕ) where
 module _ (isolation : IsolationType) (file : MemoryRange) (imports : List MemoryRange) (share : ℕ) (nodes : List ℕ) where
   -- parts 3 and 4, by the import walk
   module _ (found pieces : List TaggedRange) where
-    pub after_refused : {n : ℕ} → (import_walk isolation file imports found).refusal ≡ some n
-        → after_imports isolation file imports found share pieces nodes ≡ ends (some n)
+    pub after_refused : {n : Refusal} → (import_walk isolation file imports found).refusal ≡ Some n
+        → after_imports isolation file imports found share pieces nodes ≡ ends (Some n)
     unfolding after_imports
     after_refused h = rw h
 
-    pub after-taken : (import_walk isolation file imports found).refusal ≡ none
+    pub after-taken : (import_walk isolation file imports found).refusal ≡ None
         → after_imports isolation file imports found share pieces nodes ≡ taking share pieces (import_walk isolation file imports found).free nodes
     unfolding after_imports
     after-taken h = rw h
@@ -66,10 +61,10 @@ module _ (isolation : IsolationType) (file : MemoryRange) (imports : List Memory
     pub after_room : length pieces ≤ max_chosen → WithinBounds 0 (length pieces) (after_imports isolation file imports found share pieces nodes)
     after_room h = go (import_walk isolation file imports found).refusal refl
       where
-        go : (o : Option ℕ) → (import_walk isolation file imports found).refusal ≡ o
+        go : (o : Option Refusal) → (import_walk isolation file imports found).refusal ≡ o
             → WithinBounds 0 (length pieces) (after_imports isolation file imports found share pieces nodes)
-        go none e = rw (after-taken e) (taking_bounds share pieces (import_walk isolation file imports found).free nodes h)
-        go (some n) e = rw (after_refused e) (omega arith, omega arith)
+        go None e = rw (after-taken e) (taking_bounds share pieces (import_walk isolation file imports found).free nodes h)
+        go (Some n) e = rw (after_refused e) (omega arith, omega arith)
 
     abbrev beside : Choice
     beside = beside_file isolation file imports share nodes found pieces
@@ -78,12 +73,12 @@ module _ (isolation : IsolationType) (file : MemoryRange) (imports : List Memory
     unfolding beside_file
     beside_crossing c = rw c
 
-    pub beside_refused : {n : ℕ} → imports_clear file imports ≡ true → (after_imports isolation file imports found share pieces nodes).refusal ≡ some n
+    pub beside_refused : {n : Refusal} → imports_clear file imports ≡ true → (after_imports isolation file imports found share pieces nodes).refusal ≡ Some n
         → beside ≡ refused n
     unfolding beside_file
     beside_refused c t = rw (c, t)
 
-    pub beside-chosen : imports_clear file imports ≡ true → (after_imports isolation file imports found share pieces nodes).refusal ≡ none
+    pub beside-chosen : imports_clear file imports ≡ true → (after_imports isolation file imports found share pieces nodes).refusal ≡ None
         → beside ≡ chosen (sort_by_start (pieces ++ (after_imports isolation file imports found share pieces nodes).chosen))
     unfolding beside_file
     beside-chosen c t = rw (c, t)
@@ -94,38 +89,38 @@ module _ (isolation : IsolationType) (file : MemoryRange) (imports : List Memory
 
   -- the four parts, by the file walk
   module _ (map : List TaggedRange) where
-    pub parts-file : {n : ℕ} → (file_walk file map).refusal ≡ some n → boot_parts isolation file map imports share nodes ≡ refused n
+    pub parts-file : {n : Refusal} → (file_walk file map).refusal ≡ Some n → boot_parts isolation file map imports share nodes ≡ refused n
     unfolding boot_parts
     parts-file h = rw h
 
-    pub parts-beside : (file_walk file map).refusal ≡ none
+    pub parts-beside : (file_walk file map).refusal ≡ None
         → boot_parts isolation file map imports share nodes ≡ beside_file isolation file imports share nodes (file_walk file map).free (file_walk file map).chosen
     unfolding boot_parts beside_file
     parts-beside h = rw h
 
 -- a share's answer says which it is
-pub share_refused : (row : Option ℕ) (share : ℕ) {n : ℕ} → share_as row share ≡ Refused n → row ≡ some n
-share_refused none share e = let z : ◌≡◌ {A = ℕ} 0 1 = cc in absurd (omega arith)
-share_refused (some r) share e = cc
+pub share_refused : (row : Option Refusal) (share : ℕ) {n : Refusal} → share_as row share ≡ Err n → row ≡ Some n
+share_refused None share e = absurd (grind arith)
+share_refused (Some r) share e = cc
 
-pub share_bytes : (row : Option ℕ) (share : ℕ) {s : ℕ} → share_as row share ≡ Bytes s → (row ≡ none) × (share ≡ s)
-share_bytes none share e = (refl, cc)
-share_bytes (some r) share e = let z : ◌≡◌ {A = ℕ} 0 1 = cc in absurd (omega arith)
+pub share_bytes : (row : Option Refusal) (share : ℕ) {s : ℕ} → share_as row share ≡ Ok s → (row ≡ None) × (share ≡ s)
+share_bytes None share e = (refl, cc)
+share_bytes (Some r) share e = absurd (grind arith)
 
 -- rows 7 to 9 and the parts, by the answers for the nodes and for the share
-module _ (isolation : IsolationType) (size : OptionU64) (file : MemoryRange) (map : List TaggedRange) (imports : List MemoryRange) where
-  pub choice-nodes : {n : ℕ} → nodes_counted (tags_of map) ≡ count.Refused n → boot_choice isolation size file map imports ≡ refused n
+module _ (isolation : IsolationType) (size : (Option ℕ)) (file : MemoryRange) (map : List TaggedRange) (imports : List MemoryRange) where
+  pub choice-nodes : {n : Refusal} → nodes_counted (tags_of map) ≡ Err n → boot_choice isolation size file map imports ≡ refused n
   unfolding boot_choice
   choice-nodes e = rw (nodes_refused (tags_of map) e)
 
-  module _ {k : ℕ} (e : nodes_counted (tags_of map) ≡ count.Count k) where
-    pub choice-share : {n : ℕ} → share_for file k size ≡ Refused n → boot_choice isolation size file map imports ≡ refused n
+  module _ {k : ℕ} (e : nodes_counted (tags_of map) ≡ Ok k) where
+    pub choice-share : {n : Refusal} → share_for file k size ≡ Err n → boot_choice isolation size file map imports ≡ refused n
     unfolding boot_choice
     choice-share h =
         let c = nodes-counted (tags_of map) e in
         rw (c.0, c.1, share_refused (share_refusal size file k) (share_of (size_wanted size file) k) h)
 
-    pub choice-parts : {s : ℕ} → share_for file k size ≡ Bytes s
+    pub choice-parts : {s : ℕ} → share_for file k size ≡ Ok s
         → boot_choice isolation size file map imports ≡ boot_parts isolation file map imports s (count_up 0 k)
     unfolding boot_choice
     choice-parts h =

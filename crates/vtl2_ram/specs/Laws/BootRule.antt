@@ -1,9 +1,8 @@
 -- Boot mode: an accepted map keeps every rule, and a refused one tells the number of a rule that is broken.
-use Rattle.std.specs.Prelude.{ℕ, ◌-◌, ◌^◌, ◌≤◌, ◌<◌, ◌+◌, ◌≡◌, Bool, true, false, cond, List, [], ◌∷◌, ◌++◌, ltb, length}
+use Rattle.std.specs.Prelude.{ℕ, ◌-◌, ◌^◌, ◌≤◌, ◌<◌, ◌+◌, ◌≡◌, Bool, true, false, cond, List, [], ◌∷◌, ◌++◌, ltb, length, Option, Some, None}
 use Rattle.std.proofs.Math.Path.{refl}
-use Rattle.std.proofs.Common.{sym, ◌∙◌, inl, inr, ⊎_elim, arith, ltb-true, ltb-false}
+use Rattle.std.proofs.Common.{sym, ap, ◌∙◌, inl, inr, ⊎_elim, arith, ltb-true, ltb-false}
 use Rattle.std.proofs.Math.Bool.{not, true≢false}
-use Rattle.std.proofs.Math.Option.{Option, none, some, none-ne-some, some-injective}
 use Rattle.std.proofs.lemmas.Bool.{not-false}
 use Rattle.memory_range.specs.declared.range.MemoryRange.{MemoryRange}
 use Rattle.memory_range.specs.declared.range.TaggedRange.{TaggedRange}
@@ -17,7 +16,6 @@ use Rattle.range_lists.specs.Laws.Node.{AscendsFrom}
 use Rattle.host_params.specs.declared.IsolationType.{IsolationType}
 use Rattle.host_params.specs.declared.MemoryAllocationMode.TheVariants.{Vtl2}
 use Rattle.host_params.specs.declared.MemoryEntry.{MemoryEntry}
-use Rattle.host_params.specs.declared.OptionU64.{OptionU64}
 use Rattle.host_map.specs.Map.{map_ranges, entries_in}
 use Rattle.boot_nodes.specs.Node.{nodes_in, nodes_bad}
 use Rattle.boot_nodes.specs.Laws.Node.{nodes-good, distinct-ascends}
@@ -25,7 +23,8 @@ use Rattle.boot_ram.specs.Held.{PagedRange, Paged, on_node, holders_on}
 use Rattle.boot_ram.specs.Import.{imports_clear, MayBeImported, import_walk}
 use Rattle.boot_ram.specs.Verdict.{Judged}
 use Rattle.boot_ram.specs.Laws.Paged.{paged-all, entries_paged}
-use Rattle.refusal.specs.Number.{node_numbers, ram_size_below_file, share_too_large, import_crosses_file, import_not_in_map, file_not_in_map, too_many_pieces, node_too_small}
+use Rattle.refusal.specs.declared.Refusal.{Refusal}
+use Rattle.refusal.specs.Number.{number_of, node_numbers, ram_size_below_file, share_too_large, import_crosses_file, import_not_in_map, file_not_in_map, too_many_pieces, node_too_small}
 use Rattle.refusal.specs.Rows.{refused_if, downward}
 use Rattle.refusal.specs.Laws.Rows.{told_in-turn, downward_last, first-kept, contrary}
 use Rattle.vtl2_ram.specs.Choice.{refused, chosen}
@@ -49,13 +48,14 @@ use Rattle.boot_ram.specs.Laws.ByNode.{by-nodes}
 use Rattle.vtl2_ram.specs.Laws.Claim.{file_bytes}
 use Rattle.vtl2_ram.specs.Laws.RuleTests.{kept_clear, clear_kept, below-has, nodes-kept, size_below, size-kept, first_rows}
 use Rattle.vtl2_ram.specs.Laws.RuleOrder.{kept_more}
+use Rattle.std.proofs.lemmas.Option.{none-some, same_Some}
 
-module _ (isolation : IsolationType) (size : OptionU64) (file : MemoryRange) (map : List MemoryEntry) (imports : List MemoryRange) where
+module _ (isolation : IsolationType) (size : (Option ℕ)) (file : MemoryRange) (map : List MemoryEntry) (imports : List MemoryRange) where
   abbrev BootRule : Row → Type 0
   BootRule = Rule Vtl2 isolation size file map imports
 
-  abbrev BootBroken : ℕ → Type 0
-  BootBroken = Broken Vtl2 isolation size file map imports
+  abbrev BootBroken : Refusal → Type 0
+  BootBroken r = Broken Vtl2 isolation size file map imports (number_of r)
 
   abbrev entries : List TaggedRange
   entries = entries_in map
@@ -79,7 +79,7 @@ module _ (isolation : IsolationType) (size : OptionU64) (file : MemoryRange) (ma
   kept_next = kept_more Vtl2 isolation size file map imports
 
   -- the four parts, where rows 4 to 9 are passed
-  module _ (passed : BootKept file_not_in_map) where
+  module _ (passed : BootKept (number_of file_not_in_map)) where
     valid : BootRule row4
     valid = passed row4 (omega arith)
 
@@ -87,16 +87,16 @@ module _ (isolation : IsolationType) (size : OptionU64) (file : MemoryRange) (ma
     order = passed row5 (omega arith)
 
     -- a part that has too many pieces
-    pieces-broken : {n : ℕ} → n ≡ too_many_pieces → (BootRule row14 → ⊥) → BootBroken n
-    pieces-broken e broken = (row14, sym e, broken, passed)
+    pieces-broken : {n : Refusal} → n ≡ too_many_pieces → (BootRule row14 → ⊥) → BootBroken n
+    pieces-broken e broken = (row14, sym (ap number_of e), broken, passed)
 
-    file-broken : {n : ℕ} → filed.refusal ≡ some n → BootBroken n
+    file-broken : {n : Refusal} → filed.refusal ≡ Some n → BootBroken n
     file-broken e =
-        ⊎_elim (λ t. (row10, sym t.0, t.1, passed)) (λ t. pieces-broken t.0 (λ h. t.1 h.0))
+        ⊎_elim (λ t. (row10, sym (ap number_of t.0), t.1, passed)) (λ t. pieces-broken t.0 (λ h. t.1 h.0))
         (file-told file entries valid.0.0 order.0 e)
 
-    module _ (walked : filed.refusal ≡ none) where
-      upto10 : BootKept import_crosses_file
+    module _ (walked : filed.refusal ≡ None) where
+      upto10 : BootKept (number_of import_crosses_file)
       upto10 = kept_next row10 passed (λ a h. omega (arith, file_in-map file entries walked valid.0.0 order.0 a h))
 
       found-ordered : Ordered 0 (ranges_in filed.free)
@@ -132,16 +132,16 @@ module _ (isolation : IsolationType) (size : OptionU64) (file : MemoryRange) (ma
       import-pages = all_map (λ (r : MemoryRange) (p : PagedRange r). (p.1, p.2)) imports valid.2
 
       module _ (clear : imports_clear file imports ≡ true) where
-        upto11 : BootKept import_not_in_map
+        upto11 : BootKept (number_of import_not_in_map)
         upto11 = kept_next row11 upto10 (clear_kept file imports clear)
 
-        import-broken : {n : ℕ} → freed.refusal ≡ some n → BootBroken n
+        import-broken : {n : Refusal} → freed.refusal ≡ Some n → BootBroken n
         import-broken e =
-            ⊎_elim (λ t. (row12, sym t.0, λ h. t.1 (λ a p. still_imported a (h a p)), upto11)) (λ t. pieces-broken t.0 (λ h. t.1 h.1))
+            ⊎_elim (λ t. (row12, sym (ap number_of t.0), λ h. t.1 (λ a p. still_imported a (h a p)), upto11)) (λ t. pieces-broken t.0 (λ h. t.1 h.1))
             (import-told isolation file imports filed.free order.1 found-ordered import-pages found-pages clear e)
 
-        module _ (freely : freed.refusal ≡ none) where
-          upto12 : BootKept node_too_small
+        module _ (freely : freed.refusal ≡ None) where
+          upto12 : BootKept (number_of node_too_small)
           upto12 =
               kept_next row12 upto11
               (λ a p. ⊎_elim inl (λ q. inr (⊎_elim (λ h. inl (omega (arith, found_in a))) inr q))
@@ -150,12 +150,12 @@ module _ (isolation : IsolationType) (size : OptionU64) (file : MemoryRange) (ma
           free_on : (n : ℕ) → FreeOn file entries imports n freed.free
           free_on n a = rw (← found-on n a) (import-free isolation file imports filed.free freely order.1 found-ordered n a)
 
-          taking-broken : {n : ℕ} → (taking share filed.chosen freed.free nodes).refusal ≡ some n → BootBroken n
+          taking-broken : {n : Refusal} → (taking share filed.chosen freed.free nodes).refusal ≡ Some n → BootBroken n
           taking-broken e =
               ⊎_elim
               (λ t. (
                 row13,
-                sym t.0,
+                sym (ap number_of t.0),
                 λ h. t.1 (λ n member.
                     omega (arith, h n member freed.free (free_on n), file_bytes file entries walked valid.0.0 order.0 n)),
                 upto12,
@@ -163,16 +163,16 @@ module _ (isolation : IsolationType) (size : OptionU64) (file : MemoryRange) (ma
               (λ t. pieces-broken t.0 (λ h. t.1 h.2))
               (taking-told share filed.chosen freed.free nodes e)
 
-        taken-broken : {n : ℕ} → (after_imports isolation file imports filed.free share filed.chosen nodes).refusal ≡ some n → BootBroken n
+        taken-broken : {n : Refusal} → (after_imports isolation file imports filed.free share filed.chosen nodes).refusal ≡ Some n → BootBroken n
         taken-broken {n} e = go freed.refusal refl
           where
-            go : (u : Option ℕ) → freed.refusal ≡ u → BootBroken n
-            go none f = taking-broken f (rw (after-taken isolation file imports share nodes filed.free filed.chosen f) at e)
-            go (some k) f =
-                let same = some-injective k n (rw (after_refused isolation file imports share nodes filed.free filed.chosen f) at e) in
+            go : (u : Option Refusal) → freed.refusal ≡ u → BootBroken n
+            go None f = taking-broken f (rw (after-taken isolation file imports share nodes filed.free filed.chosen f) at e)
+            go (Some k) f =
+                let same = same_Some k n (rw (after_refused isolation file imports share nodes filed.free filed.chosen f) at e) in
                 import-broken (rw same at f)
 
-      beside-broken : {n : ℕ} → beside_file isolation file imports share nodes filed.free filed.chosen ≡ refused n → BootBroken n
+      beside-broken : {n : Refusal} → beside_file isolation file imports share nodes filed.free filed.chosen ≡ refused n → BootBroken n
       unfolding beside_file
       beside-broken {n} =
           let taken = after_imports isolation file imports filed.free share filed.chosen nodes in
@@ -184,27 +184,27 @@ module _ (isolation : IsolationType) (size : OptionU64) (file : MemoryRange) (ma
           (λ c e. taken-broken (not-false _ c) (rw (downward_last taken.refusal) at e)))
           (λ _ e. absurd (chosen-not_refused e))
 
-    parts-broken : {n : ℕ} → boot_parts isolation file entries imports share nodes ≡ refused n → BootBroken n
+    parts-broken : {n : Refusal} → boot_parts isolation file entries imports share nodes ≡ refused n → BootBroken n
     unfolding boot_parts
     parts-broken =
         choice-told BootBroken filed.refusal (beside_file isolation file imports share nodes filed.free filed.chosen) file-broken
         (λ walked e. beside-broken walked e)
 
   -- rows 7 to 9, where rows 4 to 6 are passed
-  module _ (passed : BootKept node_numbers) where
+  module _ (passed : BootKept (number_of node_numbers)) where
     abbrev count : ℕ
     count = length nodes
 
     abbrev too_large_of : Bool
     too_large_of = ltb (2 ^ 64 - page_size) share
 
-    upto7 : nodes_bad nodes ≡ false → BootKept ram_size_below_file
+    upto7 : nodes_bad nodes ≡ false → BootKept (number_of ram_size_below_file)
     upto7 g = let good = nodes-good nodes g in kept_next row7 passed (good.0, λ n h. below-has count n nodes good.1 h)
 
-    upto8 : nodes_bad nodes ≡ false → is_size_below size file ≡ false → BootKept share_too_large
+    upto8 : nodes_bad nodes ≡ false → is_size_below size file ≡ false → BootKept (number_of share_too_large)
     upto8 g f = kept_next row8 (upto7 g) (size-kept size file f)
 
-    upto9 : downward (refused_if (nodes_bad nodes) node_numbers ∷ share_refusal size file count ∷ []) ≡ none → BootKept file_not_in_map
+    upto9 : downward (refused_if (nodes_bad nodes) node_numbers ∷ share_refusal size file count ∷ []) ≡ None → BootKept (number_of file_not_in_map)
     upto9 e =
         let one = first-kept (nodes_bad nodes) node_numbers (share_refusal size file count ∷ []) e in
         let rest = rw (downward_last (share_refusal size file count)) at one.1 in
@@ -212,15 +212,15 @@ module _ (isolation : IsolationType) (size : OptionU64) (file : MemoryRange) (ma
         let three = first-kept too_large_of share_too_large [] two.1 in
         kept_next row9 (upto8 one.0 two.0) (ltb-false (2 ^ 64 - page_size) share three.0)
 
-    share-broken : nodes_bad nodes ≡ false → {n : ℕ} → share_refusal size file count ≡ some n → BootBroken n
+    share-broken : nodes_bad nodes ≡ false → {n : Refusal} → share_refusal size file count ≡ Some n → BootBroken n
     share-broken g =
         told_in-turn BootBroken (is_size_below size file) ram_size_below_file (share_too_large_for (size_wanted size file) count ∷ [])
         (λ f. (row8, refl, λ h. absurd (omega (arith, size_below size file f)), upto7 g))
         (λ f. told_in-turn BootBroken too_large_of share_too_large []
         (λ l. (row9, refl, λ h. absurd (omega (arith, ltb-true (2 ^ 64 - page_size) share l)), upto8 g f))
-        (λ l z. absurd (none-ne-some _ z)))
+        (λ l z. absurd (none-some _ z)))
 
-    pub boot-broken : {n : ℕ} → boot_choice isolation size file entries imports ≡ refused n → BootBroken n
+    pub boot-broken : {n : Refusal} → boot_choice isolation size file entries imports ≡ refused n → BootBroken n
     unfolding boot_choice
     boot-broken =
         choice-told BootBroken (downward (refused_if (nodes_bad nodes) node_numbers ∷ share_refusal size file count ∷ []))
@@ -241,7 +241,7 @@ module _ (isolation : IsolationType) (size : OptionU64) (file : MemoryRange) (ma
     ascends : AscendsFrom 0 nodes
     ascends = distinct-ascends (tags_of entries)
 
-    passed-rows : BootKept file_not_in_map
+    passed-rows : BootKept (number_of file_not_in_map)
     unfolding choice boot_choice
     passed-rows =
         let parts = boot_parts isolation file entries imports share nodes in
@@ -271,7 +271,7 @@ module _ (isolation : IsolationType) (size : OptionU64) (file : MemoryRange) (ma
       taking-fits share filed.chosen freed.free nodes accepted.taken (omega (arith, (file_bounds file entries).1)),
     )
 
-    pub boot-kept : BootKept (too_many_pieces + 1)
+    pub boot-kept : BootKept (number_of too_many_pieces + 1)
     boot-kept =
         kept_next row14
         (kept_next row13 (upto12 passed-rows accepted.file-walked accepted.clear accepted.imports-walked) free_enough)

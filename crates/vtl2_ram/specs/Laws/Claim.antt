@@ -1,8 +1,7 @@
 -- The claim of boot mode: each node of an accepted map has its due and less than 32,768 bytes more; every
 -- chosen byte lies in the map, on its node; the file's bytes are chosen, and no imported byte outside it.
-use Rattle.std.specs.Prelude.{ℕ, ◌+◌, ◌-◌, ◌≤◌, ◌<◌, ◌≡◌, refl, Bool, true, false, cond, List, [], ◌∷◌, ◌++◌, eqb}
+use Rattle.std.specs.Prelude.{ℕ, ◌+◌, ◌-◌, ◌≤◌, ◌<◌, ◌≡◌, refl, Bool, true, false, cond, List, [], ◌∷◌, ◌++◌, eqb, None}
 use Rattle.std.proofs.Common.{sym, ◌∙◌, arith}
-use Rattle.std.proofs.Math.Option.{none}
 use Rattle.std.proofs.Math.Decide.{dec_le}
 use Rattle.memory_range.specs.declared.range.MemoryRange.{MemoryRange}
 use Rattle.memory_range.specs.declared.range.TaggedRange.{TaggedRange}
@@ -85,7 +84,7 @@ common-held file n (x ∷ xs) a = go (eqb x.tag n) (holds file a) (common-held f
     go false false e c = e
 
 -- the file's pieces on a node have the file's bytes in its map entries
-pub file_bytes : (file : MemoryRange) (map : List TaggedRange) → (file_walk file map).refusal ≡ none → file.start < file.end → Ordered 0 (ranges_in map)
+pub file_bytes : (file : MemoryRange) (map : List TaggedRange) → (file_walk file map).refusal ≡ None → file.start < file.end → Ordered 0 (ranges_in map)
     → (n : ℕ) → bytes_of (on_node n (file_walk file map).chosen) ≡ file_bytes_on file map n
 file_bytes file map walked full om n =
     bytes_same (ranges_in (on_node n (file_walk file map).chosen)) (common_on file n map)

@@ -1,5 +1,5 @@
 -- Host mode: an accepted selection keeps every rule, and a refused one tells the number of a rule that is broken.
-use Rattle.std.specs.Prelude.{ℕ, ◌-◌, ◌^◌, ◌≤◌, ◌+◌, ◌≡◌, Bool, true, cond, ltb}
+use Rattle.std.specs.Prelude.{ℕ, ◌-◌, ◌^◌, ◌≤◌, ◌+◌, ◌≡◌, Bool, true, cond, ltb, Option}
 use Rattle.std.proofs.Math.Path.{refl}
 use Rattle.std.proofs.Common.{sym, ◌∙◌, true≢false}
 use Rattle.std.proofs.Math.Bool.{false}
@@ -14,11 +14,11 @@ use Rattle.memory_range.specs.Valid.{page_size}
 use Rattle.host_params.specs.declared.IsolationType.{IsolationType}
 use Rattle.host_params.specs.declared.MemoryAllocationMode.TheVariants.{Host}
 use Rattle.host_params.specs.declared.MemoryEntry.{MemoryEntry}
-use Rattle.host_params.specs.declared.OptionU64.{OptionU64}
 use Rattle.host_map.specs.Map.{map_ranges, protectable_in}
 use Rattle.boot_ram.specs.Held.{bytes_of}
 use Rattle.boot_ram.specs.Verdict.{max_chosen}
-use Rattle.refusal.specs.Number.{share_too_large, too_many_pieces, node_numbers}
+use Rattle.refusal.specs.declared.Refusal.{Refusal}
+use Rattle.refusal.specs.Number.{number_of, share_too_large, too_many_pieces, node_numbers}
 use Rattle.refusal.specs.Rows.{refused_if}
 use Rattle.refusal.specs.Laws.Rows.{rule_told, not_refused}
 use Rattle.vtl2_ram.specs.Choice.{refused, chosen}
@@ -30,12 +30,12 @@ use Rattle.vtl2_ram.specs.Laws.Choice.{unless-chosen, choice-told, chosen-not_re
 use Rattle.vtl2_ram.specs.Laws.RuleTests.{first_rows}
 use Rattle.vtl2_ram.specs.Laws.RuleOrder.{kept_more}
 
-module _ (isolation : IsolationType) (size : OptionU64) (file : MemoryRange) (map : List MemoryEntry) (imports : List MemoryRange) where
+module _ (isolation : IsolationType) (size : (Option ℕ)) (file : MemoryRange) (map : List MemoryEntry) (imports : List MemoryRange) where
   abbrev HostRule : Row → Type 0
   HostRule = Rule Host isolation size file map imports
 
-  abbrev HostBroken : ℕ → Type 0
-  HostBroken = Broken Host isolation size file map imports
+  abbrev HostBroken : Refusal → Type 0
+  HostBroken r = Broken Host isolation size file map imports (number_of r)
 
   abbrev protectable : List TaggedRange
   protectable = protectable_in map
@@ -50,10 +50,10 @@ module _ (isolation : IsolationType) (size : OptionU64) (file : MemoryRange) (ma
   kept_next = kept_more Host isolation size file map imports
 
   -- rows 7 and 8 have no rule here
-  upto8 : HostKept node_numbers → HostKept share_too_large
+  upto8 : HostKept (number_of node_numbers) → HostKept (number_of share_too_large)
   upto8 passed = kept_next row8 (kept_next row7 passed tt) tt
 
-  pub host-broken : HostKept node_numbers → {n : ℕ} → host_choice isolation file map ≡ refused n → HostBroken n
+  pub host-broken : HostKept (number_of node_numbers) → {n : Refusal} → host_choice isolation file map ≡ refused n → HostBroken n
   unfolding host_choice
   host-broken passed {n} e = by (is_hardware_isolated isolation) refl e
     where
@@ -101,7 +101,7 @@ module _ (isolation : IsolationType) (size : OptionU64) (file : MemoryRange) (ma
     unfolding choice
     host_own = host-rows ram (unless-chosen (rows_refusal Host file (map_ranges map) imports) (choice_by Host isolation size file map imports) e).1
 
-    pub host-kept : HostKept (too_many_pieces + 1)
+    pub host-kept : HostKept (number_of too_many_pieces + 1)
     host-kept =
         let upto9 = kept_next row9 (upto8 (first_rows Host isolation size file map imports ram e)) host_own.0 in
         let upto13 = kept_next row13 (kept_next row12 (kept_next row11 (kept_next row10 upto9 tt) tt) tt) tt in

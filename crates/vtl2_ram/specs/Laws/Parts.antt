@@ -1,10 +1,9 @@
 -- What boot selection's parts come to where none refuses: by node and byte, what the chosen entries hold; that
 -- they are in order; and that they are at most 64.
-use Rattle.std.specs.Prelude.{ℕ, ◌+◌, ◌≤◌, ◌<◌, ◌≡◌, refl, Bool, true, false, cond, not, eqb, length}
+use Rattle.std.specs.Prelude.{ℕ, ◌+◌, ◌≤◌, ◌<◌, ◌≡◌, refl, Bool, true, false, cond, not, eqb, length, Option, Some, None}
 use Rattle.std.proofs.Math.Path.{sym}
 use Rattle.std.proofs.Common.{ap, ◌∙◌, arith, length-append}
 use mathlib.Core.List.{List, [], ◌∷◌, ◌++◌}
-use Rattle.std.proofs.Math.Option.{Option, none, some, some-ne-none}
 use borrow.Author.Tests.{ne_eqb, not-false}
 use Rattle.memory_range.specs.declared.range.MemoryRange.{MemoryRange}
 use Rattle.memory_range.specs.declared.range.TaggedRange.{TaggedRange}
@@ -31,26 +30,28 @@ use Rattle.boot_nodes.specs.Laws.Node.{count-ascends}
 use Rattle.boot_ram.specs.Laws.OnNode.{holders_append}
 use Rattle.boot_ram.specs.Laws.Paged.{all_paged, entries_paged}
 use Rattle.boot_take.specs.Laws.Taking.{taking-held, taking_paged}
+use Rattle.refusal.specs.declared.Refusal.{Refusal}
 use Rattle.refusal.specs.Number.{import_crosses_file}
 use Rattle.refusal.specs.Rows.{refused_if, downward}
 use Rattle.refusal.specs.Laws.Rows.{not_refused, downward-none}
 use Rattle.vtl2_ram.specs.Boot.{next_unless, and_then, after_imports, beside_file, boot_parts, RowsPassed}
 use Rattle.vtl2_ram.specs.Choice.{Choice, refused, chosen, entries_of}
 use Rattle.vtl2_ram.specs.Laws.Choice.{unless-chosen}
+use Rattle.std.proofs.lemmas.Option.{none-some}
 
 -- a part that is accepted, and the next one
-next-none : (u : Option ℕ) (next : Judged) → (next_unless u next).refusal ≡ none → (u ≡ none) × (next_unless u next ≡ next)
-next-none none next e = (refl, refl)
-next-none (some n) next e = absurd (some-ne-none n e)
+next-none : (u : Option Refusal) (next : Judged) → (next_unless u next).refusal ≡ None → (u ≡ None) × (next_unless u next ≡ next)
+next-none None next e = (refl, refl)
+next-none (Some n) next e = absurd (none-some n (sym e))
 
 -- no part refused, and the chosen entries are those of the file walk and of the taking, in order of start
 pub record Accepted (isolation : IsolationType) (file : MemoryRange) (map : List TaggedRange) (imports : List MemoryRange) (share : ℕ)
     (nodes : List ℕ) (ram : List TaggedRange) : Type 0 where
-  pub file-walked : (file_walk file map).refusal ≡ none
+  pub file-walked : (file_walk file map).refusal ≡ None
   pub clear : imports_clear file imports ≡ true
-  pub imports-walked : (import_walk isolation file imports (file_walk file map).free).refusal ≡ none
+  pub imports-walked : (import_walk isolation file imports (file_walk file map).free).refusal ≡ None
   pub taken :
-      (taking share (file_walk file map).chosen (import_walk isolation file imports (file_walk file map).free).free nodes).refusal ≡ none
+      (taking share (file_walk file map).chosen (import_walk isolation file imports (file_walk file map).free).free nodes).refusal ≡ None
   pub sorted :
       ram
       ≡ sort_by_start

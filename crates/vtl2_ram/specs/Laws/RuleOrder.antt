@@ -1,17 +1,16 @@
 -- The rows of selection have the numbers 4 to 14, so that their rules add up one after the other.
-use Rattle.std.specs.Prelude.{ℕ, ◌+◌, ◌≤◌, ◌≡◌, refl, cond, List, leb}
+use Rattle.std.specs.Prelude.{ℕ, ◌+◌, ◌≤◌, ◌≡◌, refl, cond, List, leb, Option}
 use Rattle.std.proofs.Common.{arith}
 use Rattle.memory_range.specs.declared.range.MemoryRange.{MemoryRange}
 use Rattle.host_params.specs.declared.IsolationType.{IsolationType}
 use Rattle.host_params.specs.declared.MemoryAllocationMode.{MemoryAllocationMode}
 use Rattle.host_params.specs.declared.MemoryEntry.{MemoryEntry}
-use Rattle.host_params.specs.declared.OptionU64.{OptionU64}
-use Rattle.refusal.specs.Number.{range_invalid, too_many_pieces}
+use Rattle.refusal.specs.Number.{number_of, range_invalid, too_many_pieces}
 use Rattle.refusal.specs.Laws.Rule as rule
 use Rattle.vtl2_ram.specs.Rule.{Row, row4, row5, row6, row7, row8, row9, row10, row11, row12, row13, row14, number, Rule, Kept}
 
 -- the numbers of the rows are 4 to 14, each of one row
-pub numbered : (row : Row) → (range_invalid ≤ number row) × (number row ≤ too_many_pieces)
+pub numbered : (row : Row) → (number_of range_invalid ≤ number row) × (number row ≤ number_of too_many_pieces)
 numbered row4 = (omega arith, omega arith)
 numbered row5 = (omega arith, omega arith)
 numbered row6 = (omega arith, omega arith)
@@ -42,14 +41,14 @@ row-of row12 = refl
 row-of row13 = refl
 row-of row14 = refl
 
-module _ (mode : MemoryAllocationMode) (isolation : IsolationType) (size : OptionU64) (file : MemoryRange) (map : List MemoryEntry)
+module _ (mode : MemoryAllocationMode) (isolation : IsolationType) (size : (Option ℕ)) (file : MemoryRange) (map : List MemoryEntry)
     (imports : List MemoryRange) where
-  pub kept-none : Kept mode isolation size file map imports range_invalid
-  kept-none = rule.kept-none number (Rule mode isolation size file map imports) range_invalid (λ row. (numbered row).0)
+  pub kept-none : Kept mode isolation size file map imports (number_of range_invalid)
+  kept-none = rule.kept-none number (Rule mode isolation size file map imports) (number_of range_invalid) (λ row. (numbered row).0)
 
   pub kept_more : (row : Row) → Kept mode isolation size file map imports (number row) → Rule mode isolation size file map imports row
       → Kept mode isolation size file map imports (number row + 1)
   kept_more = rule.kept_more number (Rule mode isolation size file map imports) row_of row-of
 
-  pub kept-all : Kept mode isolation size file map imports (too_many_pieces + 1) → (row : Row) → Rule mode isolation size file map imports row
-  kept-all = rule.kept-all number (Rule mode isolation size file map imports) (too_many_pieces + 1) (λ row. omega (arith, (numbered row).1))
+  pub kept-all : Kept mode isolation size file map imports (number_of too_many_pieces + 1) → (row : Row) → Rule mode isolation size file map imports row
+  kept-all = rule.kept-all number (Rule mode isolation size file map imports) (number_of too_many_pieces + 1) (λ row. omega (arith, (numbered row).1))

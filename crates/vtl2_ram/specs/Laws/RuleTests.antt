@@ -1,10 +1,9 @@
 -- Rows 4 to 8 and 11 of the chart are tests of a selection's lists: each says what the rule of its row says.
-use Rattle.std.specs.Prelude.{ℕ, ◌+◌, ◌≤◌, ◌<◌, ◌≡◌, Bool, true, false, ◌&&◌, ◌||◌, not, leb, ltb, eqb, length}
+use Rattle.std.specs.Prelude.{ℕ, ◌+◌, ◌≤◌, ◌<◌, ◌≡◌, Bool, true, false, ◌&&◌, ◌||◌, not, leb, ltb, eqb, length, Option, Some, None}
 use Rattle.std.proofs.Math.Path.{refl}
 use Rattle.std.proofs.Common.{sym, ◌∙◌, true≢false, inl, inr, ⊎_elim, arith, eqb-true, eq-eqb, ltb-true, ltb-false, leb-true, le-leb, lt-ltb, le-ltb, ne_eqb}
 use Rattle.std.proofs.Math.Bool.{and-eq-true_iff, or-true}
 use mathlib.Core.List.{List, [], ◌∷◌}
-use Rattle.std.proofs.Math.Option.{none, some, none-ne-some}
 use Rattle.std.proofs.lemmas.Bool.{eqb-false, not-true, not-false}
 use Rattle.memory_range.specs.declared.range.MemoryRange.{MemoryRange}
 use Rattle.memory_range.specs.declared.range.TaggedRange.{TaggedRange}
@@ -18,12 +17,12 @@ use Rattle.host_params.specs.declared.IsolationType.{IsolationType}
 use Rattle.host_params.specs.declared.MemoryAllocationMode.{MemoryAllocationMode}
 use Rattle.host_params.specs.declared.MemoryAllocationMode.TheVariants.{Host, Vtl2}
 use Rattle.host_params.specs.declared.MemoryEntry.{MemoryEntry}
-use Rattle.host_params.specs.declared.OptionU64.{OptionU64}
 use Rattle.host_map.specs.Map.{max_entries, map_ranges}
 use Rattle.boot_nodes.specs.Node.{max_nodes, nodes_bad, all_below}
 use Rattle.boot_ram.specs.Import.{imports_clear}
 use Rattle.boot_ram.specs.Laws.Paged.{all_paged, paged-all}
-use Rattle.refusal.specs.Number.{range_invalid, ranges_not_ascending, map_count_of, node_numbers}
+use Rattle.refusal.specs.declared.Refusal.{Refusal}
+use Rattle.refusal.specs.Number.{number_of, range_invalid, ranges_not_ascending, map_count_of, node_numbers}
 use Rattle.refusal.specs.Rows.{refused_if}
 use Rattle.refusal.specs.Laws.Rows.{told_in-turn, contrary}
 use Rattle.vtl2_ram.specs.Choice.{chosen}
@@ -31,11 +30,11 @@ use Rattle.vtl2_ram.specs.Rows.{is_boot, max_imports, counts_good, rows_refusal,
 use Rattle.vtl2_ram.specs.Rule.{Row, row4, row5, row6, number, InBoot, InsideOrOutside, Rule, Kept, Broken}
 use Rattle.vtl2_ram.specs.Select.{choice, choice_by}
 use Rattle.vtl2_ram.specs.Boot.{size_wanted, is_size_below}
-use Rattle.host_params.specs.declared.OptionU64.TheVariants.{Some, None}
 use Rattle.vtl2_ram.specs.Laws.Choice.{unless-chosen}
 use Rattle.vtl2_ram.specs.Laws.Map.{length-map-ranges}
 use Rattle.vtl2_ram.specs.Laws.RuleOrder.{kept-none, kept_more}
 use Rattle.vtl2_ram.specs.Laws.Rows.{rows-passed}
+use Rattle.std.proofs.lemmas.Option.{none-some}
 
 -- row 6, of the counts
 counts-kept : (mode : MemoryAllocationMode) (m i : ℕ) → counts_good mode m i ≡ true → (m ≤ max_entries) × (i ≤ max_imports) × InBoot mode (0 < m)
@@ -100,21 +99,21 @@ pub nodes-kept : (ns : List ℕ) → (length ns ≤ max_nodes) × ((n : ℕ) →
 nodes-kept ns h = rw (le-ltb max_nodes (length ns) h.0, has_below (length ns) ns h.1)
 
 -- row 8, of the size
-pub size_below : (size : OptionU64) (file : MemoryRange) → is_size_below size file ≡ true → size_wanted size file < length_of file
+pub size_below : (size : (Option ℕ)) (file : MemoryRange) → is_size_below size file ≡ true → size_wanted size file < length_of file
 size_below (Some size) file e = ltb-true size (length_of file) e
 size_below None file e = absurd (true≢false (sym e))
 
-pub size-kept : (size : OptionU64) (file : MemoryRange) → is_size_below size file ≡ false → length_of file ≤ size_wanted size file
+pub size-kept : (size : (Option ℕ)) (file : MemoryRange) → is_size_below size file ≡ false → length_of file ≤ size_wanted size file
 size-kept (Some size) file e = ltb-false size (length_of file) e
 size-kept None file e = omega arith
 
-module _ (mode : MemoryAllocationMode) (isolation : IsolationType) (size : OptionU64) (file : MemoryRange) (map : List MemoryEntry)
+module _ (mode : MemoryAllocationMode) (isolation : IsolationType) (size : (Option ℕ)) (file : MemoryRange) (map : List MemoryEntry)
     (imports : List MemoryRange) where
   abbrev Rules : Row → Type 0
   Rules = Rule mode isolation size file map imports
 
-  abbrev Breaks : ℕ → Type 0
-  Breaks = Broken mode isolation size file map imports
+  abbrev Breaks : Refusal → Type 0
+  Breaks r = Broken mode isolation size file map imports (number_of r)
 
   abbrev Keeps : ℕ → Type 0
   Keeps = Kept mode isolation size file map imports
@@ -122,7 +121,7 @@ module _ (mode : MemoryAllocationMode) (isolation : IsolationType) (size : Optio
   abbrev kept_next : (row : Row) → Keeps (number row) → Rules row → Keeps (number row + 1)
   kept_next = kept_more mode isolation size file map imports
 
-  abbrev nothing_yet : Keeps range_invalid
+  abbrev nothing_yet : Keeps (number_of range_invalid)
   nothing_yet = kept-none mode isolation size file map imports
 
   -- rows 4 to 6
@@ -143,7 +142,7 @@ module _ (mode : MemoryAllocationMode) (isolation : IsolationType) (size : Optio
   counts_rule : counts_good mode (length m) (length imports) ≡ true → Rules row6
   counts_rule g = rw (length-map-ranges map) at (counts-kept mode (length m) (length imports) g)
 
-  pub rows_break : {n : ℕ} → rows_refusal mode file m imports ≡ some n → Breaks n
+  pub rows_break : {n : Refusal} → rows_refusal mode file m imports ≡ Some n → Breaks n
   unfolding rows_known
   rows_break =
       let valid = valid_range file && (all_valid_of m && all_valid_of imports) in
@@ -164,16 +163,16 @@ module _ (mode : MemoryAllocationMode) (isolation : IsolationType) (size : Optio
       (λ o. let upto5 = kept_next row5 upto4 (order_rule four (not-false ascending o)) in
       told_in-turn Breaks (not counts) map_count_of []
       (λ e. (row6, refl, λ h. contrary counts (rw (length-map-ranges map) (kept_counts mode (length map) (length imports) h)) e, upto5))
-      (λ g e. absurd (none-ne-some _ e))))
+      (λ g e. absurd (none-some _ e))))
 
-  pub rows_keep : rows_refusal mode file m imports ≡ none → Keeps node_numbers
+  pub rows_keep : rows_refusal mode file m imports ≡ None → Keeps (number_of node_numbers)
   rows_keep e =
       let p = rows-passed mode file m imports e in
       let four : Rules row4 = (valid-parts file p.0, all_paged m p.1, all_paged imports p.2) in
       let five : Rules row5 = (valid-ordered 0 m p.1 p.3, valid-ordered 0 imports p.2 p.4) in
       kept_next row6 (kept_next row5 (kept_next row4 nothing_yet four) five) (counts_rule p.5)
 
-  pub first_rows : (ram : List TaggedRange) → choice mode isolation size file map imports ≡ chosen ram → Keeps node_numbers
+  pub first_rows : (ram : List TaggedRange) → choice mode isolation size file map imports ≡ chosen ram → Keeps (number_of node_numbers)
   unfolding choice
   first_rows ram e =
       rows_keep (unless-chosen (rows_refusal mode file m imports) (choice_by mode isolation size file map imports) e).0

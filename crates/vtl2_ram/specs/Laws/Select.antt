@@ -1,9 +1,6 @@
 -- The claims of every accepted selection: in both modes the chosen entries are in order, of whole pages, and at
--- most 64; in boot mode they meet the claim of boot mode. And that the choice from the copy of a map is the choice from
--- the map.
-use Rattle.std.specs.Prelude.{ℕ, ◌≡◌, refl, List, [], ◌∷◌, length}
-use Rattle.std.proofs.Common.{sym, ap}
-use Rattle.std.proofs.Math.Option.{Option, none, some}
+-- most 64; in boot mode they meet the claim of boot mode.
+use Rattle.std.specs.Prelude.{ℕ, ◌≡◌, refl, List, [], ◌∷◌, length, Option, None}
 use Rattle.memory_range.specs.declared.range.MemoryRange.{MemoryRange}
 use Rattle.memory_range.specs.declared.range.TaggedRange.{TaggedRange}
 use Rattle.memory_range.specs.List.{ranges_in, tagged, tags_of}
@@ -16,34 +13,27 @@ use Rattle.host_params.specs.declared.MemoryAllocationMode.{MemoryAllocationMode
 use Rattle.host_params.specs.declared.MemoryAllocationMode.TheVariants.{Host, Vtl2}
 use Rattle.host_params.specs.declared.MemoryEntry.{MemoryEntry}
 use Rattle.host_params.specs.declared.MemoryMapEntryType.TheVariants.{Vtl2Protectable}
-use Rattle.host_params.specs.declared.OptionU64.{OptionU64}
-use Rattle.host_params.specs.declared.OptionU64.TheVariants as option
 use Rattle.boot_ram.specs.File.{file_walk}
 use Rattle.boot_ram.specs.Import.{import_walk}
-use Rattle.boot_nodes.specs.Node.{nodes_bad, nodes_in, nodes_held}
+use Rattle.boot_nodes.specs.Node.{nodes_bad, nodes_in}
 use Rattle.boot_take.specs.Take.{taking}
 use Rattle.boot_nodes.specs.Laws.Node.{distinct-ascends}
 use Rattle.boot_ram.specs.Laws.Paged.{entries-valid}
 use Rattle.refusal.specs.Number.{node_numbers}
-use Rattle.refusal.specs.Rows.{refused_if, downward, unless}
+use Rattle.refusal.specs.Rows.{refused_if, downward}
 use Rattle.vtl2_ram.specs.Boot.{share_refusal, after_imports, beside_file, boot_parts, boot_choice, RowsPassed}
-use Rattle.vtl2_ram.specs.Choice.{refused, chosen}
+use Rattle.vtl2_ram.specs.Choice.{chosen}
 use Rattle.vtl2_ram.specs.Claim.{share_in, InOrder, BootClaim}
-use Rattle.host_map.specs.Entries.{entries_held}
 use Rattle.host_map.specs.Map.{map_ranges, entries_in}
-use Rattle.host_map.specs.Rows.{check_start, checked_all}
-use Rattle.host_map.specs.Laws.Rows.{checked-valid, checked-ascending}
 use Rattle.vtl2_ram.specs.Rows.{rows_refusal, rows_known}
-use Rattle.vtl2_ram.specs.Select.{choice_by, choice, copied_map, Copied, choice_copied}
-use Rattle.host_map.specs.Laws.Entries.{stored-first}
+use Rattle.vtl2_ram.specs.Select.{choice_by, choice}
 use Rattle.vtl2_ram.specs.Laws.Choice.{unless-chosen}
 use Rattle.vtl2_ram.specs.Laws.Claim.{boot_claim}
 use Rattle.vtl2_ram.specs.Laws.Host.{host-chosen}
-use Rattle.vtl2_ram.specs.Laws.Map.{length-map-ranges}
 use Rattle.vtl2_ram.specs.Laws.Parts.{Accepted, parts-accepted, parts-ordered, parts_paged, parts-count}
-use Rattle.vtl2_ram.specs.Laws.Rows.{count_within, rows-passed}
+use Rattle.vtl2_ram.specs.Laws.Rows.{rows-passed}
 
-module _ (isolation : IsolationType) (size : OptionU64) (file : MemoryRange) (map : List MemoryEntry) (imports : List MemoryRange)
+module _ (isolation : IsolationType) (size : (Option ℕ)) (file : MemoryRange) (map : List MemoryEntry) (imports : List MemoryRange)
     (ram : List TaggedRange) where
   -- what an accepted boot selection shows
   module _ (e : choice Vtl2 isolation size file map imports ≡ chosen ram) where
@@ -95,33 +85,7 @@ module _ (isolation : IsolationType) (size : OptionU64) (file : MemoryRange) (ma
 
 -- a map is accepted: one entry with the file in it, and no size given
 pub one-accepted :
-    choice Vtl2 isolation.None option.None (range 0x200000 0x210000) (record { range = range 0 0x400000; vnode = 0; mem_type = Vtl2Protectable } ∷ []) []
+    choice Vtl2 isolation.None None (range 0x200000 0x210000) (record { range = range 0 0x400000; vnode = 0; mem_type = Vtl2Protectable } ∷ []) []
     ≡ chosen (tagged 0x200000 0x210000 0 ∷ [])
 unfolding choice rows_known boot_choice boot_parts beside_file file_walk after_imports import_walk taking walk_from
 one-accepted = refl
-
--- a map's copy and its nodes are those of one map
-pub copied : (map : List MemoryEntry) → Copied (entries_held map) (nodes_held (nodes_in map))
-copied map h = let e = sym (stored-first map h) in (ap (λ m. checked_all check_start (map_ranges m)) e, ap (λ m. nodes_held (nodes_in m)) e)
-
--- the rows by what was seen of a map are its rows
-rows_copied : (mode : MemoryAllocationMode) (file : MemoryRange) (map : List MemoryEntry) (imports : List MemoryRange)
-    → let check = checked_all check_start (map_ranges map) in
-    rows_known mode file check.valid check.ascending (length map) imports ≡ rows_refusal mode file (map_ranges map) imports
-rows_copied mode file map imports =
-    let rs = map_ranges map in
-    rw (checked-valid rs, checked-ascending rs, length-map-ranges map)
-
--- a map that is too long is refused either way, and any other is copied whole
-pub choice-copied : (mode : MemoryAllocationMode) (isolation : IsolationType) (size : OptionU64) (file : MemoryRange) (map : List MemoryEntry)
-    (imports : List MemoryRange) → choice_copied mode isolation size file (entries_held map) imports ≡ choice mode isolation size file map imports
-unfolding choice_copied choice
-choice-copied mode isolation size file map imports = rw (rows_copied mode file map imports) (go (rows_refusal mode file (map_ranges map) imports) refl)
-  where
-    go : (row : Option ℕ) → rows_refusal mode file (map_ranges map) imports ≡ row
-        → unless refused row (choice_by mode isolation size file (copied_map (entries_held map)) imports)
-        ≡ unless refused row (choice_by mode isolation size file map imports)
-    go (some n) e = refl
-    go none e =
-        let counts = (rows-passed mode file (map_ranges map) imports e).5 in
-        rw (stored-first map (rw (length-map-ranges map) at (count_within mode (length (map_ranges map)) (length imports) counts)))

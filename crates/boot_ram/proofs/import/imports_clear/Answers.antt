@@ -1,33 +1,23 @@
--- The ranges from index `i` on are the one at `i` and those behind it, or none.
-use Rattle.std.proofs.Common.{arith}
-use Rattle.std.proofs.Math.Bool.{or-true}
-use Rattle.memory_range.specs.Laws.List.{past-ranges, next-range}
-use Rattle.boot_ram.proofs.import.imports_clear.Goals.{then-overlaps+else-not-contains, else-overlaps}
+-- Each imported range is looked at.
+use Rattle.std.proofs.Common.{◌≡◌, ◌∙◌, ◌||◌, Bool, not, List, [], ◌∷◌, refl, rules, tests}
+use Rattle.std.specs.List.{list_all}
+use Rattle.std.proofs.lemmas.Iterator.{YieldsList-from_slice}
+use Rattle.std.proofs.lemmas.Iterator.Search.{all_from_yields_List}
+use Rattle.memory_range.specs.declared.range.MemoryRange.{MemoryRange}
+use Rattle.memory_range.specs.Range.{contains_range, overlap_ranges}
+use Rattle.boot_ram.specs.Import.{imports_clear}
 use Rattle.boot_ram.proofs.import.imports_clear.Goals as goal
 
-pub returns-then-import_ends-i : goal.returns-then-import_ends-i
-returns-then-import_ends-i c =
-    let a = c.args in
-    rw (c.loop-i.invariant.1, past-ranges a.import_starts.now a.import_ends.now c.loop-i.i (omega arith))
+-- whether a range is clear of the file
+abbrev is_clear : MemoryRange → MemoryRange → Bool
+is_clear file r = not (overlap_ranges file r) || contains_range file r
 
-pub returns-then-not-contains : goal.returns-then-not-contains
-returns-then-not-contains c =
-    let a = c.args in
-    rw (c.loop-i.invariant.1, next-range a.import_starts.now a.import_ends.now c.loop-i.i (omega arith))
-    (rw (← c.overlaps.ensures, c.if-overlaps.true, ← c.contains.ensures, c.if-not-contains.true))
-
-pub loop-i-preserved : goal.loop-i-preserved
-loop-i-preserved c =
-    let a = c.args in (
-      omega arith,
-      rw (c.loop-i.invariant.1, next-range a.import_starts.now a.import_ends.now c.loop-i.i (omega arith))
-          (elim c.if-overlaps.branch [
-            | then-overlaps+else-not-contains w ↦ rw (← w.contains.ensures, w.if-not-contains.false, or-true)
-            | else-overlaps w ↦ rw (← c.overlaps.ensures, w.if-overlaps.false)
-          ]),
-    )
+all_clear : (file : MemoryRange) (rs : List MemoryRange) → list_all (is_clear file) rs ≡ imports_clear file rs
+all_clear file [] = refl
+all_clear file (r ∷ rs) = rw (all_clear file rs)
 
 pub returns : goal.returns
 returns c =
     let a = c.args in
-    rw (c.loop-i.invariant.1, past-ranges a.import_starts.now a.import_ends.now c.loop-i.i (omega arith))
+    all_from_yields_List (is_clear a.file) _ _ c.all.result c.all.ensures.ran (YieldsList-from_slice a.imports.now cc) (λ x b q k. search (rules, tests))
+    ∙ all_clear a.file a.imports.now

@@ -11,8 +11,8 @@ collect_ratios-requires c =
     let first = c.in-Nearest.first in
     let end = c.in-Nearest.end in
     let rows = c.args.rows.now in
-    every_take _ (end - first) (drop first rows) (every_drop _ first rows c.requires.fact_2)
+    every_take _ (end - first) (drop first rows) (every_drop _ first rows c.requires.hints)
 
-pub extrapolate-requires-clause-fact_2 : goal.extrapolate-requires-clause-fact_2
-extrapolate-requires-clause-fact_2 c =
+pub extrapolate-requires-clause-mean_given : goal.extrapolate-requires-clause-mean_given
+extrapolate-requires-clause-mean_given c =
     omega (arith, largest_least (part c.in-Nearest.first c.in-Nearest.end c.args.rows.now))

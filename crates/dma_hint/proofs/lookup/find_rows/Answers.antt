@@ -1,13 +1,13 @@
 -- `lookup::find_rows` meets its contract. The loop's invariant is `Passed`, and each way that a turn or the loop ends
 -- cites one law of it.
-use Prim.Native.Nat.{◌≤◌}
-use mathlib.Core.Path.{refl}
+use Prim.Native.Nat.{◌≤◌, ◌<◌}
+use mathlib.Core.Path.{◌≡◌, refl}
 use mathlib.Core.List.{[]}
 use native.Mathlib.Omega.{arith}
-use lib.ListN.{get_or, drop_of_length-le}
+use lib.ListN.{length, get_or, drop_of_length-le}
 use Rattle.dma_hint.specs.Laws.Lookup.{count_at, Matches}
 use Rattle.dma_hint.proofs.lookup.Laws.{found_nearest, found_exact, larger-left, next-same, next_new}
-use Rattle.dma_hint.proofs.lookup.find_rows.Goals.{then-row_count-vp_count+else-row_count-vp_count-2+else-column-mem_size_mb, else-row_count-vp_count}
+use Rattle.dma_hint.proofs.lookup.find_rows.Goals.{then-row_count-vp_count+else-row_count-vp_count-2+else-from-mem_size_mb, else-row_count-vp_count}
 use Rattle.dma_hint.proofs.lookup.find_rows.Goals.{then-row_count-nearest, else-row_count-nearest}
 use Rattle.dma_hint.proofs.lookup.find_rows.Goals as goal
 
@@ -28,34 +28,34 @@ pub returns-then-row_count-vp_count-2 : goal.returns-then-row_count-vp_count-2
 returns-then-row_count-vp_count-2 c =
     let p = c.loop-i.invariant in
     record {
-      fact_1 = found_nearest p (larger-left p (omega arith) (omega arith));
-      fact_2 = (p.begins, p.ends);
+      what_is_found = found_nearest p (larger-left p (omega arith) (omega arith));
+      places_within = (p.begins, p.ends);
     }
 
-pub returns-then-column-mem_size_mb : goal.returns-then-column-mem_size_mb
-returns-then-column-mem_size_mb c =
+pub returns-then-from-mem_size_mb : goal.returns-then-from-mem_size_mb
+returns-then-from-mem_size_mb c =
     let p = c.loop-i.invariant in
     record {
-      fact_1 = found_exact p (omega arith) (omega arith, omega arith);
-      fact_2 = tt;
+      what_is_found = found_exact p (omega arith) (omega arith, omega arith);
+      places_within = tt;
     }
 
 pub loop-i-preserved : goal.loop-i-preserved
 loop-i-preserved c =
     let l = c.loop-i in
     let a = c.args in
-    let within = c.loop-i-test.true in
-    let e = c.column-row_count.ensures in
+    let within : l.i < length a.rows.now = omega arith in
+    let e = c.from-row_count.ensures in
     let came = c.if-row_count-vp_count.branch in
     let low : count_at a.rows.now l.i ≤ a.vp_count =
     elim came [
-      | then-row_count-vp_count+else-row_count-vp_count-2+else-column-mem_size_mb w ↦ omega arith
+      | then-row_count-vp_count+else-row_count-vp_count-2+else-from-mem_size_mb w ↦ omega arith
       | else-row_count-vp_count w ↦ omega arith
     ]
     in
     let miss : Matches a.vp_count a.mem_size_mb (get_or a.rows.now l.i []) → ⊥ =
     λ m. elim came [
-      | then-row_count-vp_count+else-row_count-vp_count-2+else-column-mem_size_mb w ↦ omega arith
+      | then-row_count-vp_count+else-row_count-vp_count-2+else-from-mem_size_mb w ↦ omega arith
       | else-row_count-vp_count w ↦ omega arith
     ]
     in
@@ -69,8 +69,9 @@ loop-i-preserved c =
 pub returns : goal.returns
 returns c =
     let p = c.loop-i.invariant in
-    let none = drop_of_length-le c.args.rows.now c.loop-i-test.false in
+    let none = drop_of_length-le c.args.rows.now {i = c.loop-i.i} (omega arith) in
+    let all : length c.args.rows.now ≡ c.loop-i.i = omega arith in
     record {
-      fact_1 = found_nearest p (rw none tt);
-      fact_2 = (p.begins, p.ends);
+      what_is_found = rw all (found_nearest p (rw none tt));
+      places_within = (omega arith, omega arith);
     }

@@ -1,7 +1,7 @@
 -- `ratio::collect_ratios` meets its contract. The loop's invariant: the smallest ratio so far and the smallest of the rows
 -- that remain give the smallest of all rows, and so for the largest; none is beyond what no rows give.
 use Prim.Native.Nat.{ℕ, ◌+◌, ◌≤◌, ◌<◌, min, max}
-use mathlib.Core.Path.{◌≡◌, sym, ◌∙◌}
+use mathlib.Core.Path.{◌≡◌}
 use mathlib.Core.List.{List, []}
 use native.Mathlib.Numerals.{add-one}
 use native.Mathlib.Omega.{arith}
@@ -32,32 +32,32 @@ module _ (rows : List Row) (i : ℕ) (none : length rows ≤ i) (so_far : ℕ) w
   largest-all : 1_000 ≤ so_far → max so_far (largest (drop i rows)) ≡ largest rows → so_far ≡ largest rows
   largest-all h e = let q = rw (drop_of_length-le rows none) at e in omega arith
 
-pub loop-i-init : goal.loop-i-init
-loop-i-init c = let rows = c.args.rows.now in omega (arith, smallest_most rows, largest_least rows)
+pub loop-row-init : goal.loop-row-init
+loop-row-init c =
+    let rows = c.args.rows.now in
+    let low = smallest_most rows in
+    let high = largest_least rows in
+    record { at_most = omega arith; smallest_of = omega arith; at_least = omega arith; largest_of = omega arith }
 
 pub row_ratio-ratio-requires : goal.row_ratio-ratio-requires
 row_ratio-ratio-requires c =
-    let s = c.before.before.before in
-    let rows = s.args.rows.now in
-    let i = c.loop-i.i in
-    ltb→lt 0 (hint_of (get_or rows i [])) (every-at _ rows i s.requires c.loop-i-test.true)
-
-pub loop-i-preserved : goal.loop-i-preserved
-loop-i-preserved c =
     let rows = c.args.rows.now in
-    let l = c.loop-i in
-    let t = c.loop-i-test.true in
-    rw (c.larger-max_ratio_1000th.ensures, c.smaller-min_ratio_1000th.ensures, c.row_ratio-ratio.ensures) (
-      omega arith,
-      (omega arith, sym (smallest-next rows l.i t l.min_ratio_1000th) ∙ l.invariant.1.1),
-      (omega arith, sym (largest-next rows l.i t l.max_ratio_1000th) ∙ l.invariant.2.1),
-    )
+    let i = c.loop-row.row-index in
+    ltb→lt 0 (hint_of (get_or rows i [])) (every-at _ rows i c.requires (omega arith))
+
+pub loop-row-preserved : goal.loop-row-preserved
+loop-row-preserved c =
+    let rows = c.args.rows.now in
+    let l = c.loop-row in
+    let small = smallest-next rows l.row-index (omega arith) l.min_ratio_1000th in
+    let large = largest-next rows l.row-index (omega arith) l.max_ratio_1000th in
+    record { at_most = omega arith; smallest_of = omega arith; at_least = omega arith; largest_of = omega arith }
 
 pub returns : goal.returns
 returns c =
     let rows = c.args.rows.now in
-    let l = c.loop-i in
-    let none = c.loop-i-test.false in record {
-      fact_1 = smallest-all rows l.i none l.min_ratio_1000th l.invariant.1.0 l.invariant.1.1;
-      fact_2 = largest-all rows l.i none l.max_ratio_1000th l.invariant.2.0 l.invariant.2.1;
+    let l = c.loop-row in
+    record {
+      smallest_ratio = smallest-all rows l.row-index (omega arith) l.min_ratio_1000th l.invariant.at_most l.invariant.smallest_of;
+      largest_ratio = largest-all rows l.row-index (omega arith) l.max_ratio_1000th l.invariant.at_least l.invariant.largest_of;
     }

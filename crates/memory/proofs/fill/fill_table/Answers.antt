@@ -1,16 +1,18 @@
--- A turn takes the walk's next piece, which is named by the items that hold it.
-use mathlib.Core.Path.{◌≡◌, refl, ap, ◌∙◌}
+-- A turn takes the walk's next piece.
+use Prim.Native.Nat.{◌<◌}
+use mathlib.Core.Bool.{false}
+use mathlib.Core.List.{[], ◌∷◌}
+use mathlib.Core.Path.{◌≡◌, refl, ◌∙◌}
 use native.Mathlib.Omega.{arith}
 use borrow.Author.Rules.{rules}
-use lib.ListN.{length, length-take}
-use Rattle.memory_range.specs.List.{ranges_in, tagged_of}
-use Rattle.memory_range.specs.Laws.List.{length-tagged}
-use Rattle.range_lists.specs.Walk.{walk_stepped}
-use Rattle.range_lists.specs.Laws.Entries.{length-ranges_in, next-piece, entries_items, tag-tagged}
-use Rattle.memory.specs.Build.{table_of}
-use Rattle.memory.specs.Laws.Walked.{first-ranges, step_as, filled_below, filled_next, filled_refused, filled_done}
-use Rattle.memory.proofs.fill.fill_table.Goals as goal
+use lib.ListN.{length}
+use Rattle.memory_range.specs.List.{ranges_in}
+use Rattle.range_lists.specs.Laws.Entries.{length-ranges_in, entries_items}
+use Rattle.memory.specs.Build.{table_entry, table_of}
+use Rattle.memory.specs.Used.{is_right}
+use Rattle.memory.specs.Laws.Walked.{tag-at, filled_below, filled_next, filled_refused, filled_done}
 use Rattle.memory.proofs.fill.fill_table.Goals.{in-Left, in-Both}
+use Rattle.memory.proofs.fill.fill_table.Goals as goal
 
 pub loop-piece-init : goal.loop-piece-init
 unfolding table_of
@@ -18,223 +20,52 @@ loop-piece-init c =
     let n : length c.args.manager.address_space ≡ 256 = search rules in
     rw c.start-at.ensures record { room = n; within = omega arith; outside = refl; entries = refl; behind = refl; flag = refl }
 
-pub slice_bounds-walk_ranges-end : goal.slice_bounds-walk_ranges-end
-slice_bounds-walk_ranges-end c =
-    let n = length-tagged c.args.ram_starts.now c.args.ram_ends.now c.args.ram_nodes.now in
-    simp length-take (omega (arith, c.tagged_count-ram.ensures))
+pub returns-in-Right : goal.returns-in-Right
+returns-in-Right c = c.refused.ensures ∙ filled_refused (rw c.in-Some.ensures at c.loop-piece.invariant) c.args.pool (rw c.in-Right.is)
 
-pub slice_bounds-walk_ranges-end-in-loop-piece : goal.slice_bounds-walk_ranges-end-in-loop-piece
-slice_bounds-walk_ranges-end-in-loop-piece c =
-    let n = length-tagged c.args.ram_starts.now c.args.ram_ends.now c.args.ram_nodes.now in
-    simp length-take (omega (arith, c.tagged_count-ram.ensures))
-
-pub slice_bounds-walk_ranges-end-in-loop-piece-2 : goal.slice_bounds-walk_ranges-end-in-loop-piece-2
-slice_bounds-walk_ranges-end-in-loop-piece-2 c =
-    let m = length-tagged c.args.used_starts.now c.args.used_ends.now c.args.used_tags.now in
-    simp length-take (omega (arith, c.tagged_count-used.ensures))
-
-pub slice_bounds-walk_ranges-end-in-loop-piece-3 : goal.slice_bounds-walk_ranges-end-in-loop-piece-3
-slice_bounds-walk_ranges-end-in-loop-piece-3 c =
-    let m = length-tagged c.args.used_starts.now c.args.used_ends.now c.args.used_tags.now in
-    simp length-take (omega (arith, c.tagged_count-used.ensures))
-
-pub offset_bounds-ram_nodes-ram_item : goal.offset_bounds-ram_nodes-ram_item
-offset_bounds-ram_nodes-ram_item c =
+pub offset_bounds-used-used_item : goal.offset_bounds-used-used_item
+offset_bounds-used-used_item c =
     let a = c.args in
-    let ram = tagged_of a.ram_starts.now a.ram_ends.now a.ram_nodes.now in
-    let used = tagged_of a.used_starts.now a.used_ends.now a.used_tags.now in
-    let ls = ranges_in ram in
-    let rs = ranges_in used in
-    let at = c.loop-piece.at in
-    let lefts = first-ranges a.ram_starts.now a.ram_ends.now a.ram_nodes.now c.tagged_count-ram.ensures in
-    let rights = first-ranges a.used_starts.now a.used_ends.now a.used_tags.now c.tagged_count-used.ensures in
-    let stepped = step_as at c.walk_ranges.result lefts rights c.walk_ranges.ensures in
-    let turn = next-piece ls rs at stepped c.in-Piece.is c.in-Left.is in
-    let item = entries_items ls used at turn in
-    let k = length-ranges_in ram in
-    let n = length-tagged c.args.ram_starts.now c.args.ram_ends.now c.args.ram_nodes.now in
+    let item = (rw c.in-Both.is at (entries_items (ranges_in a.ram.now) a.used.now c.loop-piece.at c.in-Some.ensures)).1 in
     omega (arith, c.well_formed)
 
-pub bounds-ram_nodes-ram_item : goal.bounds-ram_nodes-ram_item
-bounds-ram_nodes-ram_item c =
+pub bounds-used-used_item : goal.bounds-used-used_item
+bounds-used-used_item c =
     let a = c.args in
-    let ram = tagged_of a.ram_starts.now a.ram_ends.now a.ram_nodes.now in
-    let used = tagged_of a.used_starts.now a.used_ends.now a.used_tags.now in
-    let ls = ranges_in ram in
-    let rs = ranges_in used in
-    let at = c.loop-piece.at in
-    let lefts = first-ranges a.ram_starts.now a.ram_ends.now a.ram_nodes.now c.tagged_count-ram.ensures in
-    let rights = first-ranges a.used_starts.now a.used_ends.now a.used_tags.now c.tagged_count-used.ensures in
-    let stepped = step_as at c.walk_ranges.result lefts rights c.walk_ranges.ensures in
-    let turn = next-piece ls rs at stepped c.in-Piece.is c.in-Left.is in
-    let item = entries_items ls used at turn in
-    let k = length-ranges_in ram in
-    let n = length-tagged c.args.ram_starts.now c.args.ram_ends.now c.args.ram_nodes.now in
-    omega arith
+    (rw c.in-Both.is at (entries_items (ranges_in a.ram.now) a.used.now c.loop-piece.at c.in-Some.ensures)).1
+
+-- the item of the RAM that a piece names exists
+ram_item : (c : goal.After-built_entry-arg-1-unread) → c.match-piece.item.0 < length c.args.ram.now
+ram_item c =
+    let a = c.args in
+    let items = rw (length-ranges_in a.ram.now) at (entries_items (ranges_in a.ram.now) a.used.now c.loop-piece.at c.in-Some.ensures) in
+    elim c.match-piece.branch [
+      | in-Left w ↦ rw w.item-is (rw w.in-Left.is at items).0
+      | in-Both w ↦ rw w.item-is (rw w.in-Both.is at items).0
+    ]
+
+pub offset_bounds-ram-item : goal.offset_bounds-ram-item
+offset_bounds-ram-item c = omega (arith, c.well_formed, ram_item c)
+
+pub bounds-ram-item : goal.bounds-ram-item
+bounds-ram-item c = ram_item c
+
+-- the entry that is built is that of the piece
+built : (c : goal.After-built_entry)
+    → table_entry c.args.ram.now c.args.used.now c.in-Some.piece.range c.in-Some.piece.result ≡ c.built_entry.result ∷ []
+built c =
+    elim c.match-piece.branch [
+      | in-Left w ↦ rw (w.in-Left.is, c.built_entry.ensures, w.item-is, tag-at c.args.ram.now w.in-Left.item)
+      | in-Both w ↦ rw (w.in-Both.is, c.built_entry.ensures, w.item-is, w.usage_of.ensures, tag-at c.args.ram.now w.in-Both.item, tag-at c.args.used.now w.in-Both.used_item)
+    ]
 
 pub bounds-table-count : goal.bounds-table-count
-bounds-table-count c =
-    let a = c.args in
-    let ram = tagged_of a.ram_starts.now a.ram_ends.now a.ram_nodes.now in
-    let used = tagged_of a.used_starts.now a.used_ends.now a.used_tags.now in
-    let ls = ranges_in ram in
-    let rs = ranges_in used in
-    let at = c.loop-piece.at in
-    let lefts = first-ranges a.ram_starts.now a.ram_ends.now a.ram_nodes.now c.tagged_count-ram.ensures in
-    let rights = first-ranges a.used_starts.now a.used_ends.now a.used_tags.now c.tagged_count-used.ensures in
-    let stepped = step_as at c.walk_ranges.result lefts rights c.walk_ranges.ensures in
-    let turn = next-piece ls rs at stepped c.in-Piece.is c.in-Left.is in
-    filled_below c.requires.fact_1 c.requires.fact_2 (rw turn at c.loop-piece.invariant) refl
-
-pub returns-in-Right : goal.returns-in-Right
-returns-in-Right c =
-    let a = c.args in
-    let ram = tagged_of a.ram_starts.now a.ram_ends.now a.ram_nodes.now in
-    let used = tagged_of a.used_starts.now a.used_ends.now a.used_tags.now in
-    let ls = ranges_in ram in
-    let rs = ranges_in used in
-    let at = c.loop-piece.at in
-    let lefts = first-ranges a.ram_starts.now a.ram_ends.now a.ram_nodes.now c.tagged_count-ram.ensures in
-    let rights = first-ranges a.used_starts.now a.used_ends.now a.used_tags.now c.tagged_count-used.ensures in
-    let stepped = step_as at c.walk_ranges.result lefts rights c.walk_ranges.ensures in
-    let turn = next-piece ls rs at stepped c.in-Piece.is c.in-Right.is in
-    c.refused.ensures ∙ filled_refused a.pool (rw turn at c.loop-piece.invariant) refl
-
-pub offset_bounds-ram_nodes-ram_item-in-Both : goal.offset_bounds-ram_nodes-ram_item-in-Both
-offset_bounds-ram_nodes-ram_item-in-Both c =
-    let a = c.args in
-    let ram = tagged_of a.ram_starts.now a.ram_ends.now a.ram_nodes.now in
-    let used = tagged_of a.used_starts.now a.used_ends.now a.used_tags.now in
-    let ls = ranges_in ram in
-    let rs = ranges_in used in
-    let at = c.loop-piece.at in
-    let lefts = first-ranges a.ram_starts.now a.ram_ends.now a.ram_nodes.now c.tagged_count-ram.ensures in
-    let rights = first-ranges a.used_starts.now a.used_ends.now a.used_tags.now c.tagged_count-used.ensures in
-    let stepped = step_as at c.walk_ranges.result lefts rights c.walk_ranges.ensures in
-    let turn = next-piece ls rs at stepped c.in-Piece.is c.in-Both.is in
-    let item = entries_items ls used at turn in
-    let k = length-ranges_in ram in
-    let n = length-tagged c.args.ram_starts.now c.args.ram_ends.now c.args.ram_nodes.now in
-    omega (arith, c.well_formed)
-
-pub bounds-ram_nodes-ram_item-in-Both : goal.bounds-ram_nodes-ram_item-in-Both
-bounds-ram_nodes-ram_item-in-Both c =
-    let a = c.args in
-    let ram = tagged_of a.ram_starts.now a.ram_ends.now a.ram_nodes.now in
-    let used = tagged_of a.used_starts.now a.used_ends.now a.used_tags.now in
-    let ls = ranges_in ram in
-    let rs = ranges_in used in
-    let at = c.loop-piece.at in
-    let lefts = first-ranges a.ram_starts.now a.ram_ends.now a.ram_nodes.now c.tagged_count-ram.ensures in
-    let rights = first-ranges a.used_starts.now a.used_ends.now a.used_tags.now c.tagged_count-used.ensures in
-    let stepped = step_as at c.walk_ranges.result lefts rights c.walk_ranges.ensures in
-    let turn = next-piece ls rs at stepped c.in-Piece.is c.in-Both.is in
-    let item = entries_items ls used at turn in
-    let k = length-ranges_in ram in
-    let n = length-tagged c.args.ram_starts.now c.args.ram_ends.now c.args.ram_nodes.now in
-    omega arith
-
-pub offset_bounds-used_tags-used_item : goal.offset_bounds-used_tags-used_item
-offset_bounds-used_tags-used_item c =
-    let a = c.args in
-    let ram = tagged_of a.ram_starts.now a.ram_ends.now a.ram_nodes.now in
-    let used = tagged_of a.used_starts.now a.used_ends.now a.used_tags.now in
-    let ls = ranges_in ram in
-    let rs = ranges_in used in
-    let at = c.loop-piece.at in
-    let lefts = first-ranges a.ram_starts.now a.ram_ends.now a.ram_nodes.now c.tagged_count-ram.ensures in
-    let rights = first-ranges a.used_starts.now a.used_ends.now a.used_tags.now c.tagged_count-used.ensures in
-    let stepped = step_as at c.walk_ranges.result lefts rights c.walk_ranges.ensures in
-    let turn = next-piece ls rs at stepped c.in-Piece.is c.in-Both.is in
-    let item = entries_items ls used at turn in
-    let k = length-ranges_in ram in
-    let m = length-tagged c.args.used_starts.now c.args.used_ends.now c.args.used_tags.now in
-    omega (arith, c.well_formed)
-
-pub bounds-used_tags-used_item : goal.bounds-used_tags-used_item
-bounds-used_tags-used_item c =
-    let a = c.args in
-    let ram = tagged_of a.ram_starts.now a.ram_ends.now a.ram_nodes.now in
-    let used = tagged_of a.used_starts.now a.used_ends.now a.used_tags.now in
-    let ls = ranges_in ram in
-    let rs = ranges_in used in
-    let at = c.loop-piece.at in
-    let lefts = first-ranges a.ram_starts.now a.ram_ends.now a.ram_nodes.now c.tagged_count-ram.ensures in
-    let rights = first-ranges a.used_starts.now a.used_ends.now a.used_tags.now c.tagged_count-used.ensures in
-    let stepped = step_as at c.walk_ranges.result lefts rights c.walk_ranges.ensures in
-    let turn = next-piece ls rs at stepped c.in-Piece.is c.in-Both.is in
-    let item = entries_items ls used at turn in
-    let k = length-ranges_in ram in
-    let m = length-tagged c.args.used_starts.now c.args.used_ends.now c.args.used_tags.now in
-    omega arith
-
-pub bounds-table-count-in-Both : goal.bounds-table-count-in-Both
-bounds-table-count-in-Both c =
-    let a = c.args in
-    let ram = tagged_of a.ram_starts.now a.ram_ends.now a.ram_nodes.now in
-    let used = tagged_of a.used_starts.now a.used_ends.now a.used_tags.now in
-    let ls = ranges_in ram in
-    let rs = ranges_in used in
-    let at = c.loop-piece.at in
-    let lefts = first-ranges a.ram_starts.now a.ram_ends.now a.ram_nodes.now c.tagged_count-ram.ensures in
-    let rights = first-ranges a.used_starts.now a.used_ends.now a.used_tags.now c.tagged_count-used.ensures in
-    let stepped = step_as at c.walk_ranges.result lefts rights c.walk_ranges.ensures in
-    let turn = next-piece ls rs at stepped c.in-Piece.is c.in-Both.is in
-    filled_below c.requires.fact_1 c.requires.fact_2 (rw turn at c.loop-piece.invariant) refl
-
-pub loop-piece-smaller : goal.loop-piece-smaller
-loop-piece-smaller c =
-    let a = c.args in
-    let ram = tagged_of a.ram_starts.now a.ram_ends.now a.ram_nodes.now in
-    let used = tagged_of a.used_starts.now a.used_ends.now a.used_tags.now in
-    let ls = ranges_in ram in
-    let rs = ranges_in used in
-    let at = c.loop-piece.at in
-    let lefts = first-ranges a.ram_starts.now a.ram_ends.now a.ram_nodes.now c.tagged_count-ram.ensures in
-    let rights = first-ranges a.used_starts.now a.used_ends.now a.used_tags.now c.tagged_count-used.ensures in
-    let stepped = step_as at c.walk_ranges.result lefts rights c.walk_ranges.ensures in
-    let turn = next-piece ls rs at stepped c.in-Piece.is refl in
-    omega (arith, ap length turn)
+bounds-table-count c = filled_below (rw c.in-Some.ensures at c.loop-piece.invariant) c.requires.ram_fits c.requires.used_fits (built c)
 
 pub loop-piece-preserved : goal.loop-piece-preserved
 loop-piece-preserved c =
-    let a = c.args in
-    let ram = tagged_of a.ram_starts.now a.ram_ends.now a.ram_nodes.now in
-    let used = tagged_of a.used_starts.now a.used_ends.now a.used_tags.now in
-    let ls = ranges_in ram in
-    let rs = ranges_in used in
-    let at = c.loop-piece.at in
-    let lefts = first-ranges a.ram_starts.now a.ram_ends.now a.ram_nodes.now c.tagged_count-ram.ensures in
-    let rights = first-ranges a.used_starts.now a.used_ends.now a.used_tags.now c.tagged_count-used.ensures in
-    let stepped = step_as at c.walk_ranges.result lefts rights c.walk_ranges.ensures in
-    let few = c.requires in
-    elim c.match-result.branch [
-      | in-Left w ↦
-          let turn = next-piece ls rs at stepped c.in-Piece.is w.in-Left.is in
-          let item = entries_items ls used at turn in
-          let k = length-ranges_in ram in
-          let node = tag-tagged a.ram_starts.now a.ram_ends.now a.ram_nodes.now w.in-Left.ram_item (omega arith) in
-          filled_next few.fact_1 few.fact_2 (rw turn at c.loop-piece.invariant) refl refl w.table-is (rw node w.built_entry.ensures)
-      | in-Both w ↦
-          let turn = next-piece ls rs at stepped c.in-Piece.is w.in-Both.is in
-          let item = entries_items ls used at turn in
-          let k = length-ranges_in ram in
-          let node = tag-tagged a.ram_starts.now a.ram_ends.now a.ram_nodes.now w.in-Both.ram_item (omega arith) in
-          let tag = tag-tagged a.used_starts.now a.used_ends.now a.used_tags.now w.in-Both.used_item item.1 in
-          filled_next few.fact_1 few.fact_2 (rw turn at c.loop-piece.invariant) refl refl w.table-is
-          (rw (node, tag, ← w.usage_of.ensures) w.built_entry-in-Both.ensures)
-    ]
+    let held : is_right c.in-Some.piece.result ≡ false = elim c.match-piece.branch [ in-Left w ↦ rw w.in-Left.is | in-Both w ↦ rw w.in-Both.is ] in
+    filled_next (rw c.in-Some.ensures at c.loop-piece.invariant) c.requires.ram_fits c.requires.used_fits (built c) held
 
-pub returns-in-End : goal.returns-in-End
-returns-in-End c =
-    let a = c.args in
-    let ram = tagged_of a.ram_starts.now a.ram_ends.now a.ram_nodes.now in
-    let used = tagged_of a.used_starts.now a.used_ends.now a.used_tags.now in
-    let ls = ranges_in ram in
-    let rs = ranges_in used in
-    let at = c.loop-piece.at in
-    let lefts = first-ranges a.ram_starts.now a.ram_ends.now a.ram_nodes.now c.tagged_count-ram.ensures in
-    let rights = first-ranges a.used_starts.now a.used_ends.now a.used_tags.now c.tagged_count-used.ensures in
-    let stepped = step_as at c.walk_ranges.result lefts rights c.walk_ranges.ensures in
-    let e = stepped ∙ ap (walk_stepped ls rs) c.in-End.is in
-    c.finished.ensures ∙ filled_done a.pool (rw e at c.loop-piece.invariant)
+pub returns : goal.returns
+returns c = c.finished.ensures ∙ filled_done c.args.pool (rw c.in_default.ensures at c.loop-piece.invariant)

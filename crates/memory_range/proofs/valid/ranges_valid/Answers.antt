@@ -1,35 +1,19 @@
--- `valid::ranges_valid` meets its contract. The loop's invariant: the answer for the whole list is the
--- answer for the ranges from index `i` on.
-use mathlib.Core.Path.{refl}
-use native.Mathlib.Omega.{arith}
-use Rattle.memory_range.specs.Laws.List.{past-ranges, next-range}
+-- The chain tests the range of each item.
+use Rattle.std.proofs.Common.{List, [], ◌∷◌, ◌≡◌, refl, ap, ◌∙◌, ◌&&◌, map, rules, tests}
+use Rattle.std.specs.List.{list_all}
+use Rattle.std.proofs.lemmas.Iterator.{YieldsList-from_slice}
+use Rattle.std.proofs.lemmas.Iterator.Search.{all_from_yields_List}
+use Rattle.memory_range.specs.declared.range.MemoryRange.{MemoryRange}
+use Rattle.memory_range.specs.Valid.{valid_range, all_valid_of}
 use Rattle.memory_range.proofs.valid.ranges_valid.Goals as goal
 
-pub loop-i-init : goal.loop-i-init
-loop-i-init c = (omega arith, refl)
-
-pub returns-then-ends-i : goal.returns-then-ends-i
-returns-then-ends-i c =
-    let a = c.args in
-    let l = c.loop-i in
-    rw (l.invariant.1, past-ranges a.starts.now a.ends.now l.i (omega arith))
-
-pub returns-then-not-is_valid : goal.returns-then-not-is_valid
-returns-then-not-is_valid c =
-    let a = c.args in
-    let l = c.loop-i in
-    let bad = c.if-not-is_valid.true in
-    rw (l.invariant.1, next-range a.starts.now a.ends.now l.i (omega arith), ← c.is_valid.ensures, bad)
-
-pub loop-i-preserved : goal.loop-i-preserved
-loop-i-preserved c =
-    let a = c.args in
-    let l = c.loop-i in
-    let good = c.if-not-is_valid.false in
-    (omega arith, rw (l.invariant.1, next-range a.starts.now a.ends.now l.i (omega arith), ← c.is_valid.ensures, good))
+valid_items : {X : Type 0} (f : X → MemoryRange) (xs : List X) → list_all (λ x. valid_range (f x)) xs ≡ all_valid_of (map f xs)
+valid_items f [] = refl
+valid_items f (x ∷ xs) = ap (λ t. valid_range (f x) && t) (valid_items f xs)
 
 pub returns : goal.returns
-returns c =
-    let a = c.args in
-    let l = c.loop-i in
-    rw (l.invariant.1, past-ranges a.starts.now a.ends.now l.i (omega arith))
+returns g c =
+    all_from_yields_List (λ x. valid_range (g.R.HasRange.range_in x)) c.all.new.self _ _ c.all.ensures.ran
+    (YieldsList-from_slice c.args.list.now cc)
+    (λ x b q k. search (rules, tests))
+    ∙ valid_items g.R.HasRange.range_in c.args.list.now

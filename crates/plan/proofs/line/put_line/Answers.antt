@@ -1,4 +1,5 @@
 -- `line::put_line` meets its contract: a line of numbers of their widths fits the buffer, and what is put is the line.
+use Rattle.std.specs.Prelude.{Option, Some}
 use Prim.Native.Nat.{ℕ, ◌+◌, ◌≤◌}
 use mathlib.Core.Path.{◌≡◌, refl, ◌∙◌}
 use native.Mathlib.Omega.{arith}
@@ -7,9 +8,8 @@ use denote.Enum.Declared.{variants}
 use denote.Enum.Laws.{Fields, spellss, owed}
 use lib.ListN.{length, take, drop, length-append}
 use lib.Seq.{take_at}
-use Rattle.plan_output.specs.declared.put.Put.{Put}
-use Rattle.plan_output.specs.declared.put.Put.TheVariants.{To}
 use mathlib.Core.List.{List}
+use Rattle.refusal.specs.Number.{number_of}
 use Rattle.plan_output.specs.Put.{put_at, put_in, put_place}
 use Rattle.plan_output.specs.Line.{written}
 use Rattle.plan_output.specs.Laws.Line.{ram-fits, pool-fits, got-fits, no-fits, map-fits}
@@ -28,7 +28,7 @@ fits : (l : OutputLine) → Fields (variants line-type.the_type) (spellss line-t
 fits (Ram r n) f = ram-fits r (search rules) (search rules) n (search rules)
 fits (Pool r n) f = pool-fits r (search rules) (search rules) n (search rules)
 fits (Got r n) f = got-fits r (search rules) (search rules) n (search rules)
-fits (No n) f = no-fits n
+fits (No r) f = no-fits (number_of r)
 fits (Map r t) f = map-fits r (search rules) (search rules) t
 
 pub slice_bounds-buffer-end : goal.slice_bounds-buffer-end
@@ -46,30 +46,30 @@ slice_bounds-put_word-end c =
     rw s e.value
 
 -- there is room, so the line is put
-placed : (l : OutputLine) (at : ℕ) (output : List ℕ) (b : List ℕ) (n : ℕ) (after : List ℕ) (answer : Put) (output' : List ℕ)
+placed : (l : OutputLine) (at : ℕ) (output : List ℕ) (b : List ℕ) (n : ℕ) (after : List ℕ) (answer : Option ℕ) (output' : List ℕ)
     → length (line_bytes l) ≤ line_size → Room 1 at output
     → n ≡ length (line_bytes l) → after ≡ written (line_bytes l) b
     → answer ≡ put_place at (take n after) output → output' ≡ put_in at (take n after) output
-    → (answer ≡ To (at + length (line_bytes l))) × (output' ≡ put_at at (line_bytes l) output)
+    → (answer ≡ Some (at + length (line_bytes l))) × (output' ≡ put_at at (line_bytes l) output)
 placed l at output b n after answer output' few room e f p q =
     let s = spelled l b n after e f in
     let i = put-in at (line_bytes l) output (omega arith) in
     (rw s at p ∙ i.1, rw s at q ∙ i.0)
 
 -- the line fits, by what its type says of it
-pub returns-in-To : goal.returns-in-To
-returns-in-To c =
+pub unwrap-requires : goal.unwrap-requires
+unwrap-requires c =
     let a = c.args in
     let e = c.write_line-len.ensures in
     let few = fits a.line (owed line-type.the_type line-laws.the_laws a.line _ c.well_formed.1.1.0) in
     let p = placed a.line a.at a.output.now _ _ _ _ _ few c.requires e.value e.buffer_after c.put_word.ensures.value c.put_word.ensures.buffer_after in
-    let place : c.in-To.next ≡ a.at + length (line_bytes a.line) = cc (c.in-To.is, p.0) in
-    rw (place, p.1) (wrote_one a.line a.at a.output.now few)
+    rw p.0
 
-pub returns-in-NoRoom : goal.returns-in-NoRoom
-returns-in-NoRoom c =
+pub returns : goal.returns
+returns c =
     let a = c.args in
     let e = c.write_line-len.ensures in
     let few = fits a.line (owed line-type.the_type line-laws.the_laws a.line _ c.well_formed.1.1.0) in
     let p = placed a.line a.at a.output.now _ _ _ _ _ few c.requires e.value e.buffer_after c.put_word.ensures.value c.put_word.ensures.buffer_after in
-    cc (c.in-NoRoom.is, p.0)
+    let place : c.unwrap.result ≡ a.at + length (line_bytes a.line) = cc (c.unwrap.ensures, p.0) in
+    rw (place, p.1) (wrote_one a.line a.at a.output.now few)

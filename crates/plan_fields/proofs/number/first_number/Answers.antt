@@ -1,31 +1,33 @@
 -- `number::first_number` meets its contract: the digits in front are the first of several fields where a tab is behind them.
-use mathlib.Core.Path.{sym, ◌∙◌}
+use mathlib.Core.Path.{◌≡◌, sym, ◌∙◌}
+use lib.ListN.{length, get_or}
+use native.Mathlib.Omega.{arith}
+use Prim.Native.Nat.{◌≤◌, ◌<◌}
+use Rattle.std.proofs.lemmas.Grind.{common_steps}
+use Rattle.std.proofs.lemmas.Option.{gets}
+use Rattle.plan_fields.specs.Cut.{tab}
 use Rattle.plan_fields.proofs.number.Laws.{only-field, other_byte, tab-behind}
 use Rattle.plan_fields.proofs.number.first_number.Goals as goal
 
-pub returns-then-fields-size : goal.returns-then-fields-size
-returns-then-fields-size c =
-    let f = c.front_digits-front in
-    sym (only-field c.args.fields.now f.result f.ensures c.if-fields-size.true)
+pub returns-in_err-get : goal.returns-in_err-get
+returns-in_err-get c =
+    let f = c.front_digits-value in
+    let past : length c.args.fields.now ≤ f.result.size = grind (arith, common_steps, gets) in
+    let e = only-field c.args.fields.now f.result f.ensures past in
+    grind (arith, common_steps)
 
-pub returns-then-fields-size-ne-TAB : goal.returns-then-fields-size-ne-TAB
-returns-then-fields-size-ne-TAB c =
-    let a = c.before.before.before in
-    let f = a.front_digits-front in
-    sym (other_byte a.args.fields.now f.result f.ensures c.if-fields-size.false c.if-fields-size-ne-TAB.true)
-
-pub returns-then-well_formed : goal.returns-then-well_formed
-returns-then-well_formed c =
-    let b = c.before.before in
-    let a = b.before.before.before in
-    let f = a.front_digits-front in
-    sym (tab-behind a.args.fields.now f.result f.ensures b.if-fields-size.false b.if-fields-size-ne-TAB.false
-    _ (sym c.if-well_formed.true ∙ c.well_formed-2.ensures))
+pub returns-then-branch-ne-TAB : goal.returns-then-branch-ne-TAB
+returns-then-branch-ne-TAB c =
+    let f = c.front_digits-value in
+    let b = c.args.fields.now in
+    let within : f.result.size < length b = grind (arith, common_steps, gets) in
+    let byte : get_or b f.result.size 0 ≡ c.in_ok-get.field-0.now = grind (arith, common_steps, gets) in
+    sym (other_byte b f.result f.ensures within (rw byte c.if-branch-ne-TAB.true))
 
 pub returns : goal.returns
 returns c =
-    let b = c.before.before in
-    let a = b.before.before.before in
-    let f = a.front_digits-front in
-    sym (tab-behind a.args.fields.now f.result f.ensures b.if-fields-size.false b.if-fields-size-ne-TAB.false
-    _ (sym c.if-well_formed.false ∙ c.well_formed-2.ensures))
+    let f = c.front_digits-value in
+    let b = c.args.fields.now in
+    let within : f.result.size < length b = grind (arith, common_steps, gets) in
+    let byte : get_or b f.result.size 0 ≡ tab = grind (arith, common_steps, gets) in
+    c.then_some.ensures ∙ sym (tab-behind b f.result f.ensures within byte _ c.well_formed-2.ensures)

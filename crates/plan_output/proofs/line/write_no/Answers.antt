@@ -1,5 +1,5 @@
 -- `line::write_no` meets its contract: the word's field makes the line's start, and the digits' field its end.
-use Rattle.std.proofs.Common.{◌≡◌, refl, ◌∙◌, arith, rules, [], ◌∷◌, length, take}
+use Rattle.std.proofs.Common.{◌≡◌, refl, ap, ◌∙◌, arith, rules, [], ◌∷◌, length, take}
 use Rattle.plan_fields.specs.Cut.{tab, newline}
 use Rattle.plan_output.specs.Number.{decimal_of}
 use Rattle.plan_output.specs.Laws.Number.{decimal_digits, decimal-length}
@@ -14,7 +14,7 @@ returns c =
     -- the digits written are the refusal's
     let h = c.decimal-count in
     let spelled : take h.result h.new.out ≡ decimal_of c.args.refusal
-    = h.ensures.digits ∙ decimal_digits c.args.refusal h.result (omega arith) h.ensures.len in
+    = h.ensures.digits ∙ decimal_digits c.from.result h.result (omega arith) h.ensures.len ∙ ap decimal_of c.from.ensures in
     -- the line after the first put
     let p = c.put_field-at in
     let first : Stands (110 ∷ 111 ∷ tab ∷ []) b p.result p.new.buffer

@@ -1,16 +1,15 @@
 -- `record::read_shape` meets its contract: the answer is none at the first field that stands for nothing.
-use Rattle.plan_record.specs.Value.{mode_of, isolation_of, optional_of, mode_in, isolation_in, optional_in}
-use Rattle.plan_record.proofs.record.Laws.{of_shape, word_next, word_none, whole, empty-first, empty_last, optional-tab}
+use Rattle.plan_record.proofs.record.Laws.{of_shape, word_next, word_none, last_next, last_none, empty-first, empty_last, optional-tab}
 use Rattle.plan_record.proofs.record.read_shape.Goals as goal
 
-pub returns-in_default : goal.returns-in_default
-returns-in_default c = search (of_shape, word_none mode_in mode_of)
+pub returns-in_err-mode : goal.returns-in_err-mode
+returns-in_err-mode c = search (of_shape, word_none, c.in_err-mode.was)
 
-pub returns-in_default-read_isolation : goal.returns-in_default-read_isolation
-returns-in_default-read_isolation c = search (of_shape, word_next mode_in mode_of, word_none isolation_in isolation_of, empty-first)
+pub returns-in_err-isolation : goal.returns-in_err-isolation
+returns-in_err-isolation c = search (of_shape, word_next, word_none, empty-first, c.in_ok-mode.was, c.in_err-isolation.was)
 
-pub returns-in_default-read_optional : goal.returns-in_default-read_optional
-returns-in_default-read_optional c = search (of_shape, word_next mode_in mode_of, word_next isolation_in isolation_of, empty-first, empty_last, whole optional_in optional_of, optional-tab) depth 7 fits 3000
+pub returns-in_err-memory_size : goal.returns-in_err-memory_size
+returns-in_err-memory_size c = search (of_shape, word_next, empty-first, empty_last, last_none, optional-tab, c.in_ok-mode.was, c.in_ok-isolation.was, c.in_err-memory_size.was) depth 7 fits 3000
 
 pub returns : goal.returns
-returns c = search (of_shape, word_next mode_in mode_of, word_next isolation_in isolation_of, empty-first, empty_last, whole optional_in optional_of, optional-tab) depth 7 fits 3000
+returns c = search (of_shape, word_next, empty-first, empty_last, last_next, optional-tab, c.in_ok-mode.was, c.in_ok-isolation.was, c.in_ok-memory_size.was) depth 7 fits 3000

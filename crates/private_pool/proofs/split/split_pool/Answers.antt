@@ -3,11 +3,13 @@ use mathlib.Core.Path.{ap, sym, ◌∙◌}
 use mathlib.Core.List.{List}
 use native.Mathlib.Omega.{arith}
 use lib.ListN.{replicate}
+use lib.Seq.{length-take-le}
 use Rattle.address_space.specs.Table.{entries_of}
 use Rattle.private_pool.specs.Piece.{table_nodes}
 use Rattle.private_pool.specs.Pool.{max_pool_ranges, pool_as}
 use Rattle.private_pool.specs.Laws.Pool.{split-none, split_few, split_good}
 use Rattle.private_pool.proofs.nodes.Laws.{nodes-taken, nodes_size}
+use Rattle.private_pool.proofs.split.split_pool.Goals.{then-count-eq0-via-then-count-eq0, then-count-eq0-via-else-count-eq0+then-pages-count}
 use Rattle.private_pool.proofs.split.split_pool.Goals as goal
 
 -- the array before any node is stored
@@ -18,23 +20,22 @@ pub returns-then-count-eq0 : goal.returns-then-count-eq0
 returns-then-count-eq0 c =
     let a = c.args in
     let t = c.table_nodes-count in
-    c.refused.ensures
-    ∙ sym (ap (pool_as a.manager) (split-none a.pages (entries_of a.manager) (sym t.ensures.0 ∙ c.if-count-eq0.true)))
-
-pub returns-then-pages-count : goal.returns-then-pages-count
-returns-then-pages-count c =
-    let a = c.args in
-    let t = c.table_nodes-count in
-    c.refused-then-pages-count.ensures
-    ∙ sym (ap (pool_as a.manager) (split_few a.pages (entries_of a.manager) (rw t.ensures.0 at c.if-pages-count.true)))
+    elim c.then-count-eq0.branch [
+      | then-count-eq0-via-then-count-eq0 w ↦
+          c.refused.ensures
+          ∙ sym (ap (pool_as a.manager) (split-none a.pages (entries_of a.manager) (sym t.ensures.0 ∙ w.if-count-eq0.true)))
+      | then-count-eq0-via-else-count-eq0+then-pages-count w ↦
+          c.refused.ensures
+          ∙ sym (ap (pool_as a.manager) (split_few a.pages (entries_of a.manager) (rw t.ensures.0 at w.if-pages-count.true)))
+    ]
 
 pub place_pieces-requires : goal.place_pieces-requires
 place_pieces-requires c =
     let t = c.table_nodes-count in
     let some = c.if-count-eq0.false in
-    let es = entries_of c.args.manager in
-    let size = nodes_size (table_nodes es) no_nodes t.ensures.0 t.ensures.2 t.ensures.1 in
-    (omega arith, t.ensures.1, size, c.requires)
+    let size = nodes_size (table_nodes (entries_of c.args.manager)) no_nodes t.ensures.0 t.ensures.2 t.ensures.1 in
+    let n = length-take-le t.result t.new.numa_nodes (omega (arith, size, t.ensures.1)) in
+    record { some = omega (arith, n); room = omega (arith, n, t.ensures.1); fits = c.requires }
 
 pub returns : goal.returns
 returns c =

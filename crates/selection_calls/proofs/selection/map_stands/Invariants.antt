@@ -1,12 +1,11 @@
--- `selection::map_stands` meets its contract. The loop's invariant: the words stand for a map where those from `at` on do.
-use Prim.Native.Nat.{◌-◌, ◌≤◌}
-use mathlib.Core.Path.{◌≡◌}
-use lib.ListN.{length, drop}
+-- `selection::map_stands` meets its contract. The loop's invariant: the words stand for a map where those that are left do.
+use Rattle.std.proofs.Common.{◌≡◌, ◌%◌, length}
+use Rattle.std.specs.Slice.Iter.{chunks_exact_rest, chunks_exact_size}
 use Rattle.selection_calls.specs.Selection.{map_stands}
 use Rattle.selection_calls.proofs.selection.map_stands.Given as goal
 
-abbrev pub invariant-loop-at : goal.invariant-loop-at
-invariant-loop-at l = (l.at ≤ length l.words) × (map_stands (drop l.at l.words) ≡ map_stands l.words)
-
-abbrev pub decreases-loop-at : goal.decreases-loop-at
-decreases-loop-at l = length l.words - l.at
+abbrev pub invariant-loop-entry : goal.invariant-loop-entry
+invariant-loop-entry l =
+    (chunks_exact_size l.entry-iterator ≡ 4)
+    × (map_stands (chunks_exact_rest l.entry-iterator) ≡ map_stands l.words)
+    × (length (chunks_exact_rest l.entry-iterator) % 4 ≡ length l.words % 4)

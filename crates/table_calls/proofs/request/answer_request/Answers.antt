@@ -1,29 +1,11 @@
--- `request::answer_request` meets its contract: good words are those of the request that is made.
-use borrow.Author.Tests.{eq-eqb, ne_eqb}
-use lib.ListN.{get_or}
-use Rattle.table_calls.specs.Request.{none_word}
+-- `request::answer_request` meets its contract: what rows 22 to 25 refuse is refused, and leaves the table.
+use Rattle.std.proofs.lemmas.Result.{err_from_is_err_and}
+use Rattle.address_space.specs.Table.{entries_of}
+use Rattle.table_calls.specs.Laws.Request.{rows-refuse}
 use Rattle.table_calls.proofs.request.answer_request.Goals as goal
 
-pub returns-then-alignment : goal.returns-then-alignment
-returns-then-alignment c =
-    let r = c.args.row.now in
-    rw (
-      c.requires.fact_2,
-      ← c.node_of-node.ensures,
-      ← c.type_of-allocation_type.ensures,
-      ← c.policy_of-policy.ensures,
-      eq-eqb (get_or r 4 0) none_word c.if-alignment.true,
-    )
-    c.request.ensures
-
-pub returns : goal.returns
-returns c =
-    let r = c.args.row.now in
-    rw (
-      c.requires.fact_2,
-      ← c.node_of-node.ensures,
-      ← c.type_of-allocation_type.ensures,
-      ← c.policy_of-policy.ensures,
-      ne_eqb (get_or r 4 0) none_word c.if-alignment.false,
-    )
-    c.request_aligned.ensures
+pub returns-in_err-check_request : goal.returns-in_err-check_request
+returns-in_err-check_request c =
+    let refused = rows-refuse c.args.row.now (entries_of c.args.manager.now) c.in_ok-asked.ensures c.in_err-check_request.ensures in
+    let told = err_from_is_err_and c.from_residual-in_err-check_request.result c.from_residual-in_err-check_request.ensures.1 in
+    record { answer = rw (told.1, told.2, refused); table = rw refused }

@@ -1,27 +1,17 @@
--- `list::nodes_good` meets its contract. The loop's invariant: all nodes are good where those from `i` on are.
-use Prim.Native.Nat.{◌+◌, ◌*◌, ◌/◌, ◌^◌}
-use mathlib.Core.Path.{sym, ◌∙◌}
-use native.Mathlib.Omega.{arith}
-use borrow.Author.Tests.{lt-ltb, le-ltb}
-use lib.ListN.{length, get_or, drop_of_length-le}
-use Rattle.table_words.specs.List.{ram_rows}
-use Rattle.table_words.specs.Laws.List.{next-node}
-use Rattle.table_words.specs.Laws.Rows.{length-rows}
+-- `list::nodes_good` meets its contract: the test of the chunks is that of the rows.
+use Rattle.std.proofs.Common.{◌^◌, ltb, get_or, rules, tests, ◌≡◌, refl, ap, ◌∙◌, List, ℕ, [], ◌∷◌, ◌&&◌, arith}
+use Rattle.std.specs.List.{list_all}
+use Rattle.std.proofs.lemmas.Iterator.Search.{all_from_yields_List}
+use Rattle.table_words.specs.List.{ram_rows, nodes_good}
+use Rattle.table_words.specs.Laws.Chunks.{chunks-rows}
 use Rattle.table_words.proofs.list.nodes_good.Goals as goal
 
-pub returns-then-words-i-ge-NODE_BOUND : goal.returns-then-words-i-ge-NODE_BOUND
-returns-then-words-i-ge-NODE_BOUND c =
-    let ws = c.args.words.now in
-    let i = c.loop-i.i in
-    sym (c.loop-i.invariant.1 ∙ rw (next-node (length ws / 3) i ws (omega arith), le-ltb (get_or ws (3 * i + 2) 0) (2 ^ 32) c.if-words-i-ge-NODE_BOUND.true))
-
-pub loop-i-preserved : goal.loop-i-preserved
-loop-i-preserved c =
-    let ws = c.args.words.now in
-    let i = c.loop-i.i in
-    (omega arith, c.loop-i.invariant.1 ∙ rw (next-node (length ws / 3) i ws (omega arith), lt-ltb (get_or ws (3 * i + 2) 0) (2 ^ 32) c.if-words-i-ge-NODE_BOUND.false))
+all_nodes : (rs : List (List ℕ)) → list_all (λ r. ltb (get_or r 2 0) (2 ^ 32)) rs ≡ nodes_good rs
+all_nodes [] = refl
+all_nodes (r ∷ rs) = ap (λ b. ltb (get_or r 2 0) (2 ^ 32) && b) (all_nodes rs)
 
 pub returns : goal.returns
 returns c =
-    let ws = c.args.words.now in
-    sym (c.loop-i.invariant.1 ∙ rw (drop_of_length-le (ram_rows ws) {i = c.loop-i.i} (omega (arith, length-rows 3 (length ws / 3) ws))))
+    let chunks = c.chunks_exact.ensures in
+    let rows = chunks-rows 3 c.args.words.now (omega arith) chunks.rest chunks.size in
+    all_from_yields_List (λ r. ltb (get_or r 2 0) (2 ^ 32)) _ _ _ c.all.ensures.ran rows (λ x b q k. search (rules, tests)) ∙ all_nodes (ram_rows c.args.words.now)

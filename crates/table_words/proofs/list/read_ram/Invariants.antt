@@ -1,18 +1,12 @@
--- `list::read_ram` meets its contract. The loop's invariant: the words and the nodes of the rows from `i` on are left to store.
-use Prim.Native.Nat.{◌-◌, ◌≤◌}
-use lib.ListN.{drop}
-use lib.Seq.{sets}
-use Rattle.table_words.specs.List.{ram_rows, column, node_column}
-use Rattle.table_words.specs.Laws.Stores.{Stores}
+-- The loop's invariant: the ranges of the rows to come are left to store.
+use Rattle.std.proofs.Common.{◌≡◌, map}
+use Rattle.std.proofs.lemmas.List.Edits.{sets}
+use Rattle.table_words.specs.List.{ram_rows, ram_low}
+use Rattle.table_words.specs.Laws.Chunks.{rows_left}
 use Rattle.table_words.proofs.list.read_ram.Given as goal
 
 abbrev pub invariant-loop-i : goal.invariant-loop-i
-invariant-loop-i l =
-    let all = ram_rows l.words in
-    (l.i ≤ l.count)
-    × Stores (sets l.initial.starts 0 (column 0 all)) l.i l.starts (column 0 (drop l.i all))
-    × Stores (sets l.initial.ends 0 (column 1 all)) l.i l.ends (column 1 (drop l.i all))
-    × Stores (sets l.initial.nodes 0 (node_column all)) l.i l.nodes (node_column (drop l.i all))
-
-abbrev pub decreases-loop-i : goal.decreases-loop-i
-decreases-loop-i l = l.count - l.i
+invariant-loop-i l = record {
+  width : l.i-iterator.iter.size ≡ 3;
+  left : sets l.ram l.i-iterator.count (map ram_low (rows_left l.i-iterator.iter)) ≡ sets l.initial.ram 0 (map ram_low (ram_rows l.words));
+}

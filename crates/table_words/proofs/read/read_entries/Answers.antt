@@ -1,58 +1,71 @@
--- `read::read_entries` meets its contract. The loop's invariant: all rows are good where those from `i` on are, and the entries of these
--- are left to store.
-use Prim.Native.Nat.{ℕ, ◌+◌, ◌*◌, ◌-◌, ◌<◌}
-use mathlib.Core.Path.{◌≡◌, refl, ap, sym, ◌∙◌}
-use mathlib.Core.List.{List, [], ◌∷◌, map}
-use native.Mathlib.Omega.{arith}
-use lib.ListN.{take, drop, drop_of_length-le}
+-- `read::read_entries` meets its contract: a turn stores the entry of the next row, or the row stands for none.
+use Rattle.std.proofs.Common.{inl, inr, ℕ, ◌≡◌, ◌-◌, suc, List, [], ◌∷◌, ◌++◌, refl, ap, ◌∙◌, length, take, drop, arith, length-drop, take_all}
+use Rattle.std.proofs.lemmas.List.{length-append}
+use Rattle.table_words.specs.Rows.{rows}
 use Rattle.table_words.specs.Table.{entry_of}
-use Rattle.table_words.specs.Laws.Rows.{length-rows, row_at, row-length}
+use Rattle.table_words.specs.Laws.Rows.{length-rows, row_before}
 use Rattle.table_words.specs.Laws.Stores.{stores_more, stores-end}
-use Rattle.table_words.specs.Laws.Table.{no-entries, read-bad, read_done}
-use Rattle.table_words.proofs.read.read_entries.Invariants.{entry_rows}
+use Rattle.table_words.specs.Laws.Table.{no_entries, entry-good, entry-bad, read-bad, read_done}
 use Rattle.table_words.proofs.read.read_entries.Goals as goal
 
--- the row of the entry at an index
-abbrev row : ℕ → List ℕ → List ℕ
-row i words = let at = 2 + 4 * i in take (at + 4 - at) (drop at words)
-
-turn : (words : List ℕ) (count i : ℕ) → i < count
-    → drop i (entry_rows words count) ≡ row i words ∷ drop (i + 1) (entry_rows words count)
-turn words count i h = row_at 4 2 count words i h refl refl
+next : (n k : ℕ) (r ws rest : List ℕ) → n ≡ suc k → ws ≡ r ++ rest → length r ≡ 4 → rows 4 n ws ≡ r ∷ rows 4 k rest
+next n k r ws rest e f g = rw (e, f) (row_before 4 k r rest g)
 
 pub loop-i-init : goal.loop-i-init
-loop-i-init c = (omega arith, refl, rw (no-entries refl) record { all = refl })
-
-pub entry_good-requires : goal.entry_good-requires
-entry_good-requires c =
-    row-length 4 c.args.words.now (2 + 4 * c.loop-i.i) (2 + 4 * c.loop-i.i + 4) refl (omega arith)
-
-pub returns-then-not-entry_good : goal.returns-then-not-entry_good
-returns-then-not-entry_good c =
-    let a = c.args in
-    let next = turn a.words.now a.count c.loop-i.i c.loop-i-test.true in
-    let bad = sym c.entry_good.ensures ∙ c.if-not-entry_good.true in
-    c.not_read.ensures ∙ read-bad (entry_rows a.words.now a.count) a.flag (c.loop-i.invariant.1 ∙ rw (next, bad))
-
-pub entry_of-requires-clause-fact_1 : goal.entry_of-requires-clause-fact_1
-entry_of-requires-clause-fact_1 c =
-    row-length 4 c.args.words.now (2 + 4 * c.loop-i.i) (2 + 4 * c.loop-i.i + 4) refl (omega arith)
+unfolding no_entries
+loop-i-init c =
+    let chunks = c.chunks_exact.ensures in
+    let items = c.zip-i-items.ensures in
+    let ws = c.args.words.now in
+    let behind : take (length ws - 2) (drop 2 ws) ≡ drop 2 ws = take_all (length ws - 2) (drop 2 ws) (omega (arith, length-drop 2 ws)) in
+    let whole : c.args.count - 0 ≡ c.args.count = omega arith in
+    rw (c.into_iter-i-iterator.ensures.into_iter_gives, items.first, items.second, chunks.rest, chunks.size, c.new-manager.ensures, behind, whole)
+    (record { width = refl; end = refl; within = omega arith; enough = omega (arith, length-drop 2 ws); good = refl; entries_left = record { all = refl } })
 
 pub loop-i-preserved : goal.loop-i-preserved
 loop-i-preserved c =
-    let ws = c.args.words.now in
-    let next = turn ws c.args.count c.loop-i.i c.loop-i-test.true in
-    let good = sym c.entry_good.ensures ∙ c.if-not-entry_good.false in
-    let s = rw next at c.loop-i.invariant.2 in (
-      omega arith,
-      c.loop-i.invariant.1 ∙ rw (next, good),
-      stores_more (entry_of (row c.loop-i.i ws) ∷ []) _ (rw c.entry_of.ensures) refl s,
-    )
+    let count = c.args.count in
+    let l = c.loop-i in
+    let p = l.i-iterator in
+    let q = c.next.new.self in
+    let r = c.in-Some.row.now in
+    let step = c.in-Some.ensures.steps in
+    let w = l.invariant.width in
+    let n = next (count - p.a.start) (count - q.a.start) r p.b.rest.now q.b.rest.now (omega arith) step.1.1.0 (step.1.1.1 ∙ w) in
+    let e = entry-good r c.in_ok-manager.ensures in
+    let s = rw n at l.invariant.entries_left in
+    let k : c.in-Some.i ≡ p.a.start = omega arith in
+    record {
+      width = step.1.0 ∙ w;
+      end = omega arith;
+      within = omega arith;
+      enough = omega (arith, ap length step.1.1.0, length-append r q.b.rest.now);
+      good = l.invariant.good ∙ rw (n, e.0);
+      entries_left = stores_more (entry_of r ∷ []) _ (rw (k, e.1)) (omega arith) s;
+    }
+
+pub returns-in_err-manager : goal.returns-in_err-manager
+returns-in_err-manager c =
+    let a = c.args in
+    let p = c.loop-i.i-iterator in
+    let q = c.next.new.self in
+    let r = c.in-Some.row.now in
+    let step = c.in-Some.ensures.steps in
+    let n = next (a.count - p.a.start) (a.count - q.a.start) r p.b.rest.now q.b.rest.now (omega arith) step.1.1.0 (step.1.1.1 ∙ c.loop-i.invariant.width) in
+    c.from_residual.ensures
+    ∙ read-bad (rows 4 a.count (drop 2 a.words.now)) a.flag (c.loop-i.invariant.good ∙ rw (n, entry-bad r c.in_err-manager.ensures))
 
 pub returns : goal.returns
 returns c =
     let a = c.args in
-    let all = entry_rows a.words.now a.count in
-    let n = length-rows 4 a.count (drop 2 a.words.now) in
-    let none = drop_of_length-le all {i = c.loop-i.i} (omega arith) in
-    read_done all a.count a.flag n c.requires.1 (c.loop-i.invariant.1 ∙ rw none) (stores-end (ap (map entry_of) none) c.loop-i.invariant.2)
+    let l = c.loop-i in
+    let w = l.invariant.width in
+    let none : a.count - l.i-iterator.a.start ≡ 0 =
+    elim c.in-None.ensures.steps [
+      | inl w ↦ omega arith
+      | inr w ↦ omega arith
+    ]
+    in
+    let good = rw none at l.invariant.good in
+    let all = rw none at l.invariant.entries_left in
+    read_done (rows 4 a.count (drop 2 a.words.now)) a.count a.flag (length-rows 4 a.count (drop 2 a.words.now)) c.requires.1 good (stores-end refl all)

@@ -1,5 +1,5 @@
--- `host::parse_host_vtl2_ram` meets its contract: the choice is the one of the guest's isolation, from the answers of the two callees.
-use mathlib.Core.Path.{◌∙◌, sym}
+-- The choice is the one of the guest's isolation, from the answers of the two callees.
+use Rattle.std.proofs.Common.{sym, ◌∙◌}
 use Rattle.vtl2_ram.specs.Host.{host_choice}
 use Rattle.vtl2_ram.proofs.host.parse_host_vtl2_ram.Goals as goal
 

@@ -1,15 +1,40 @@
--- The copy and the nodes are those of one map, and the choice from the copy is the choice from the map.
-use mathlib.Core.Path.{ap, ◌∙◌}
-use Rattle.memory_range.specs.List.{ranges_of}
-use Rattle.vtl2_ram.specs.Laws.Select.{copied, choice-copied}
-use Rattle.vtl2_ram.specs.Ram.{ram_as}
+-- Rows that pass say of the lists what the mode's own function asks of them.
+use Rattle.std.proofs.Common.{sym}
+use Rattle.std.proofs.lemmas.Result.{err_from_is_err_and}
+use Rattle.memory_range.specs.Laws.Valid.{valid-ordered}
+use Rattle.refusal.specs.Laws.Answer.{rows_refused, rows_none}
+use Rattle.host_map.specs.Map.{map_ranges}
+use Rattle.vtl2_ram.specs.Select.{choice}
+use Rattle.vtl2_ram.specs.Laws.Rows.{rows-passed}
 use Rattle.vtl2_ram.proofs.select.select_vtl2_ram.Goals as goal
 
-pub select_from-requires : goal.select_from-requires
-select_from-requires c = rw (c.copy_entries-copy.ensures, c.numa_nodes-nodes.ensures) (copied c.args.map.now)
+pub returns-in_err-check_rows : goal.returns-in_err-check_rows
+unfolding choice
+returns-in_err-check_rows c =
+    let p = err_from_is_err_and c.from_residual.result c.from_residual.ensures.1 in
+    rw (p.1, p.2, rows_refused _ (sym c.in_err-check_rows.ensures))
 
-pub returns : goal.returns
-returns c =
+pub parse_host_vtl2_ram-requires-clause-file_valid : goal.parse_host_vtl2_ram-requires-clause-file_valid
+parse_host_vtl2_ram-requires-clause-file_valid c =
     let a = c.args in
-    rw c.copy_entries-copy.ensures at c.select_from.ensures
-    ∙ ap ram_as (choice-copied a.mode a.isolation a.ram_size a.file a.map.now (ranges_of a.import_starts.now a.import_ends.now))
+    (rows-passed a.mode a.file (map_ranges a.map.now) a.imports.now (rows_none _ (sym c.in_ok-check_rows.ensures))).0
+
+pub parse_host_vtl2_ram-requires-clause-ordered : goal.parse_host_vtl2_ram-requires-clause-ordered
+parse_host_vtl2_ram-requires-clause-ordered c =
+    let a = c.args in
+    let p = rows-passed a.mode a.file (map_ranges a.map.now) a.imports.now (rows_none _ (sym c.in_ok-check_rows.ensures)) in
+    valid-ordered 0 (map_ranges a.map.now) p.1 p.3
+
+pub allocate_vtl2_ram-requires : goal.allocate_vtl2_ram-requires
+allocate_vtl2_ram-requires c =
+    let a = c.args in
+    let p = rows-passed a.mode a.file (map_ranges a.map.now) a.imports.now (rows_none _ (sym c.in_ok-check_rows.ensures)) in
+    (p.0, p.1, p.3, p.2, p.4)
+
+pub returns-in-Host : goal.returns-in-Host
+unfolding choice
+returns-in-Host c = rw (rows_none _ (sym c.in_ok-check_rows.ensures), c.in-Host.is) c.parse_host_vtl2_ram.ensures
+
+pub returns-in-Vtl2 : goal.returns-in-Vtl2
+unfolding choice
+returns-in-Vtl2 c = rw (rows_none _ (sym c.in_ok-check_rows.ensures), c.in-Vtl2.is) c.allocate_vtl2_ram.ensures

@@ -1,24 +1,26 @@
 use mathlib.Core.Path.{ap, sym}
 use Rattle.refusal.specs.Answer.{rows_as}
+use Rattle.std.proofs.lemmas.Result.{err_from_is_err_and}
 use Rattle.address_space.specs.Table.{entries_of}
 use Rattle.address_space.specs.Laws.Request.{search-rows, search_nowhere, search-at}
 use Rattle.address_space.proofs.table.AddressSpaceManager.check_request.Goals as goal
 
-pub returns-in-Refused : goal.returns-in-Refused
-returns-in-Refused c =
+pub returns-in_err-len : goal.returns-in_err-len
+returns-in_err-len c =
     let a = c.args in
-    sym (ap rows_as (search-rows a.required_vnode a.len a.allocation_policy a.alignment (entries_of a.self) _ (sym c.in-Refused.ensures)))
+    let p = err_from_is_err_and c.from_residual.result c.from_residual.ensures.1 in
+    rw (p.1, p.2) (sym (ap rows_as (search-rows a.required_vnode a.len a.allocation_policy a.alignment (entries_of a.self) _ (sym c.in_err-len.ensures))))
 
-pub returns-in-Nowhere : goal.returns-in-Nowhere
-returns-in-Nowhere c =
+pub returns-in-None : goal.returns-in-None
+returns-in-None c =
     let a = c.args in
     sym
     (ap rows_as
-    (search_nowhere a.required_vnode a.len a.allocation_policy a.alignment (entries_of a.self) _ (sym c.in-Rounded.ensures) (sym c.in-Nowhere.ensures)))
+    (search_nowhere a.required_vnode a.len a.allocation_policy a.alignment (entries_of a.self) _ (sym c.in_ok-len.ensures) (sym (rw c.entries.ensures at c.in-None.ensures))))
 
-pub returns-in-At : goal.returns-in-At
-returns-in-At c =
+pub returns-in-Some : goal.returns-in-Some
+returns-in-Some c =
     let a = c.args in
     sym
     (ap rows_as
-    (search-at a.required_vnode a.len a.allocation_policy a.alignment (entries_of a.self) _ (sym c.in-Rounded.ensures) _ (sym c.in-At.ensures)))
+    (search-at a.required_vnode a.len a.allocation_policy a.alignment (entries_of a.self) _ (sym c.in_ok-len.ensures) _ (sym (rw c.entries.ensures at c.in-Some.ensures))))

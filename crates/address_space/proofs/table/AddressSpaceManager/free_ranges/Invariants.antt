@@ -1,5 +1,4 @@
 -- The loop's invariant: the free ranges from `at` on are those from `next` on.
-use Prim.Native.Nat.{◌-◌}
 use mathlib.Core.Path.{◌≡◌}
 use lib.ListN.{drop}
 use Rattle.address_space.specs.List.{free_ranges}
@@ -8,6 +7,3 @@ use Rattle.address_space.proofs.table.AddressSpaceManager.free_ranges.Given as g
 
 abbrev pub invariant-loop-next : goal.invariant-loop-next
 invariant-loop-next l = free_ranges l.vnode (drop l.at (entries_of l.self)) ≡ free_ranges l.vnode (drop l.next (entries_of l.self))
-
-abbrev pub decreases-loop-next : goal.decreases-loop-next
-decreases-loop-next l = l.count - l.next

@@ -1,5 +1,4 @@
 -- The loop's invariant: the reserved ranges from `at` on are those from `next` on.
-use Prim.Native.Nat.{◌-◌}
 use mathlib.Core.Path.{◌≡◌}
 use lib.ListN.{drop}
 use Rattle.address_space.specs.List.{reserved_ranges}
@@ -8,6 +7,3 @@ use Rattle.address_space.proofs.table.AddressSpaceManager.reserved_vtl2_ranges.G
 
 abbrev pub invariant-loop-next : goal.invariant-loop-next
 invariant-loop-next l = reserved_ranges (drop l.at (entries_of l.self)) ≡ reserved_ranges (drop l.next (entries_of l.self))
-
-abbrev pub decreases-loop-next : goal.decreases-loop-next
-decreases-loop-next l = l.count - l.next

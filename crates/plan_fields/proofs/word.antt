@@ -1,2 +1,0 @@
--- Laws for the proofs of comparing bytes.
-pub mod Laws

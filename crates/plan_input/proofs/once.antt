@@ -1,2 +1,0 @@
--- The proofs of `once`.
-pub mod Laws

@@ -1,0 +1,2 @@
+-- Laws for the proofs of reading on.
+pub mod Laws

@@ -1,0 +1,2 @@
+-- Lemmas of boot mode.
+pub mod Laws

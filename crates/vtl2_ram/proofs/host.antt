@@ -1,2 +1,0 @@
--- Lemmas of host mode.
-pub mod Laws

@@ -1,2 +1,0 @@
--- What the proofs of selection share.
-pub mod Laws
