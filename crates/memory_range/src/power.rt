@@ -6,5 +6,5 @@ ghost use Rattle.memory_range.specs.Power.{is_power_of_two};
 pub fn is_power_of_two(alignment: u64) -> bool
     ensures { result ≡ is_power_of_two alignment }
 {
-    alignment.is_power_of_two()
+    u64::count_ones(alignment) == 1
 }
