@@ -100,39 +100,8 @@ fn allocate_range(
 }
 
 impl AddressSpaceManager {
-    // The search and the split, for a length in whole pages and an alignment that is good.
-    fn place(
-        &self,
-        required_vnode: Option<u32>,
-        len: u64,
-        allocation_type: AllocationType,
-        allocation_policy: AllocationPolicy,
-        alignment: Option<u64>,
-    ) -> Allocation
-        ensures { result ≡ allocation_as self.now allocation_type
-            (allocated required_vnode len allocation_type allocation_policy alignment (entries_of self.now)) }
-    {
-        match find_index(
-            self.entries(),
-            required_vnode,
-            len,
-            allocation_policy,
-            alignment,
-        ) {
-            None => refused(self, Refusal::NoFit),
-            Some(at) => allocate_range(
-                self,
-                at,
-                len,
-                allocation_type,
-                allocation_policy,
-                alignment,
-            ),
-        }
-    }
-
-    // The search and the split apart from the rows above them, since a private pool's pieces are placed
-    // by them alone.
+    // The search and the split, for a length in whole pages and an alignment that is good. They stand
+    // apart from the rows above them, since a private pool's pieces are placed by them alone.
     pub fn allocate_inner(
         self,
         required_vnode: Option<u32>,
@@ -144,13 +113,23 @@ impl AddressSpaceManager {
         ensures { result ≡ allocation_as self allocation_type
             (allocated required_vnode len allocation_type allocation_policy alignment (entries_of self)) }
     {
-        self.place(
+        match find_index(
+            self.entries(),
             required_vnode,
             len,
-            allocation_type,
             allocation_policy,
             alignment,
-        )
+        ) {
+            None => refused(&self, Refusal::NoFit),
+            Some(at) => allocate_range(
+                &self,
+                at,
+                len,
+                allocation_type,
+                allocation_policy,
+                alignment,
+            ),
+        }
     }
 
     // Rows 22 to 25 of a request: that it is refused by one, or that an entry fits. Only the answer comes
@@ -190,7 +169,7 @@ impl AddressSpaceManager {
     {
         match check_rows(len, alignment) {
             Err(refusal) => refused(self, refusal),
-            Ok(len) => self.place(
+            Ok(len) => (*self).allocate_inner(
                 required_vnode,
                 len,
                 allocation_type,

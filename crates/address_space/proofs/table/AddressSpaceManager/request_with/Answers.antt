@@ -15,7 +15,7 @@ returns-in-Err c =
 pub returns-in-Ok : goal.returns-in-Ok
 returns-in-Ok c =
     let a = c.args in
-    c.place.ensures
+    c.allocate_inner.ensures
     ∙ sym
     (ap (allocation_as a.self.now a.allocation_type)
     (requested_rounded a.required_vnode a.len a.allocation_type a.allocation_policy a.alignment (entries_of a.self.now) _ (sym c.in-Ok.ensures)))
