@@ -81,7 +81,7 @@ pub(crate) fn selected(stored: Stored, case: &Case, words: &[u64]) -> Option<usi
             same_entries(stored, at, &[])
         }
         Ok(ram) => {
-            let entries = ram.entries.as_slice();
+            let entries = ram.as_slice();
             let at = stored.same_words(0, &[0, entries.len() as u64, ram.bytes])?;
             same_entries(stored, at, entries)
         }

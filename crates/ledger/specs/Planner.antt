@@ -7,7 +7,7 @@ use Rattle.host_params.specs.declared.IsolationType.{IsolationType}
 use Rattle.host_params.specs.declared.MemoryAllocationMode.{MemoryAllocationMode}
 use Rattle.host_params.specs.declared.MemoryEntry.{MemoryEntry}
 use Rattle.vtl2_ram.specs.declared.ram.Vtl2Ram.{Vtl2Ram}
-use Rattle.vtl2_ram.specs.Ram.{ram_as}
+use Rattle.vtl2_ram.specs.Ram.{ram_entries, ram_as}
 use Rattle.vtl2_ram.specs.Select.{choice}
 use Rattle.address_space.specs.declared.request.Allocation.{Allocation}
 use Rattle.address_space.specs.declared.table.AddressRange.{AddressRange}
@@ -41,7 +41,7 @@ pub record Planner : Type 1 where
 
 -- the planner that the definitions are: each part is what the contract of the code's function says of its result
 abbrev pub selection_of : Result Vtl2Ram Refusal → Option (List TaggedRange)
-selection_of (Ok r) = Some r.entries.items
+selection_of (Ok r) = Some (ram_entries r)
 selection_of (Err n) = None
 
 abbrev pub initialized : Result (Unit {0}) Refusal → AddressSpaceManager → Option AddressSpaceManager

@@ -9,6 +9,7 @@ use Rattle.host_params.specs.declared.IsolationType.{IsolationType}
 use Rattle.host_params.specs.declared.MemoryEntry.{MemoryEntry}
 use Rattle.boot_ram.specs.Held.{bytes_of}
 use Rattle.vtl2_ram.specs.declared.ram.Vtl2Ram.{Vtl2Ram}
+use Rattle.vtl2_ram.specs.Ram.{ram_entries}
 use Rattle.vtl2_ram.specs.Choice.{Choice, chosen}
 use Rattle.vtl2_ram.specs.Choice as choice-of
 use Rattle.host_map.specs.Map.{map_ranges}
@@ -142,8 +143,8 @@ choice_of s = choice s.shape.mode s.shape.isolation s.shape.memory_size s.file (
 -- a selection's answer in the course of a plan: its bytes are those of its entries, and the plan is what comes after their choice
 pub record Selected (bytes : List ℕ) (isolation : IsolationType) (pool : Pool) (builder : AddressSpaceManagerBuilder) (gets : List Get)
     (configs pools : List MemoryRange) (ram : Vtl2Ram) : Type 0 where
-  pub total : ram.bytes ≡ bytes_of ram.entries.items
-  pub plan : plan_of bytes ≡ after_choice isolation pool builder gets configs pools (chosen ram.entries.items)
+  pub total : ram.bytes ≡ bytes_of (ram_entries ram)
+  pub plan : plan_of bytes ≡ after_choice isolation pool builder gets configs pools (chosen (ram_entries ram))
 
 -- the bytes of the shortest request: `get`, five fields of a byte, and the byte behind each of the six
 abbrev pub shortest_get : ℕ

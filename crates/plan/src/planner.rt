@@ -2,7 +2,7 @@
 // follow.
 ghost use Rattle.std.specs.Prelude.{◌≡◌, ◌≤◌, length, take};
 ghost use Rattle.boot_ram.specs.Held.{bytes_of};
-ghost use Rattle.vtl2_ram.specs.Ram.{ram_as};
+ghost use Rattle.vtl2_ram.specs.Ram.{ram_entries, ram_as};
 ghost use Rattle.vtl2_ram.specs.Select.{choice};
 ghost use Rattle.address_space.specs.Table.{entries_of};
 ghost use Rattle.memory.specs.Build.{built};
@@ -102,14 +102,14 @@ fn plan_table(
     output: &mut [u8],
 ) -> Result<usize, Refusal>
     requires suffices { output_size_for (length text.now) ≤ length output.old }
-    requires total { ram.now.bytes ≡ bytes_of ram.now.entries.items }
+    requires total { ram.now.bytes ≡ bytes_of (ram_entries ram.now) }
     requires plan { let requests = gets_first (records_at text.now pool.next) in
-        plan_of text.now ≡ after_build isolation pool.pool ram.now.entries.items requests (built (entries_of table)) }
+        plan_of text.now ≡ after_build isolation pool.pool (ram_entries ram.now) requests (built (entries_of table)) }
     ensures { Answers (plan_of text.now) output.old output.new result }
 {
     let placed = place_pool(isolation, pool.pool, ram.bytes, table);
     let count = placed.answer?;
-    let entries = ram.entries.as_slice();
+    let entries = ram.as_slice();
     Ok(write_plan(text, pool.next, entries, placed, count, output))
 }
 
@@ -125,7 +125,7 @@ fn plan_ram(
         Selected text.now read.selection.shape.isolation read.pool.pool read.build.builder requests read.configs.now read.pools.now ram.now }
     ensures { Answers (plan_of text.now) output.old output.new result }
 {
-    let entries = ram.entries.as_slice();
+    let entries = ram.as_slice();
     let builder = read.build.builder;
     let init = builder.init(
         AddressSpaceManager::new(),

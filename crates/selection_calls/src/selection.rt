@@ -228,7 +228,7 @@ pub fn select_words(
         map,
         imports,
     )?;
-    let entries = chosen.entries.as_slice();
+    let entries = chosen.as_slice();
     write_ram(entries, ram);
     Ok(entries.len())
 }

@@ -61,7 +61,7 @@ fn choose_ram(
     walk_imports(isolation, file, imports, found.as_slice(), &mut free)?;
     take_ram(share, numa_node_count, &free, &mut chosen)?;
     sort_by_start(chosen.as_mut_slice());
-    Ok(chosen_ram(chosen))
+    Ok(chosen_ram(&chosen))
 }
 
 // Rows 7 to 9, then the parts.

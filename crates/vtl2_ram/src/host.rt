@@ -81,7 +81,7 @@ fn protectable_ram(file: MemoryRange, map: &[MemoryEntry]) -> Result<Vtl2Ram, Re
     if entries.is_empty() {
         return Ok(ram_on_node_0(file));
     }
-    Ok(chosen_ram(entries))
+    Ok(chosen_ram(&entries))
 }
 
 // RAM size and imported ranges have no say.

@@ -1,6 +1,6 @@
 -- Demand 3 of the planner that the definitions are: the selection and the build (whole, with the calls: proofs/Demand), and what it says of a plan.
 use Rattle.std.specs.Prelude.{ℕ, ◌+◌, ◌≤◌, ◌<◌, ◌≡◌, refl, true, List, Option, Some}
-use Rattle.std.proofs.Common.{ap}
+use Rattle.std.proofs.Common.{ap, sym, ◌∙◌}
 use Rattle.std.proofs.lemmas.Option.{same_Some}
 use Rattle.memory_range.specs.declared.range.MemoryRange.{MemoryRange}
 use Rattle.memory_range.specs.declared.range.TaggedRange.{TaggedRange}
@@ -17,6 +17,7 @@ use Rattle.vtl2_ram.specs.Claim.{share_in, due_on}
 use Rattle.host_map.specs.Map.{entries_in}
 use Rattle.vtl2_ram.specs.Ram.{ram_as}
 use Rattle.vtl2_ram.specs.Select.{choice}
+use Rattle.vtl2_ram.specs.Laws.Ram.{entries-of}
 use Rattle.vtl2_ram.specs.Laws.Select.{boot_claimed, chosen_in_order}
 use Rattle.address_space.specs.declared.table.AddressRange.{AddressRange}
 use Rattle.address_space.specs.declared.table.AddressSpaceManager.{AddressSpaceManager}
@@ -36,7 +37,9 @@ module _ (mode : MemoryAllocationMode) (isolation : IsolationType) (size : Optio
     where
       go : (c : Choice) → choice mode isolation size file map imports ≡ c → selection_of (ram_as c) ≡ Some ram → c ≡ chosen ram
       go (refused n) p q = cc
-      go (chosen xs) p q = ap chosen (same_Some xs ram q)
+      go (chosen xs) p q =
+          let held = entries-of xs (chosen_in_order isolation size file map imports xs mode p).count in
+          ap chosen (sym held ∙ same_Some _ ram q)
 
   pub selection-holds : selection_of (ram_as (choice mode isolation size file map imports)) ≡ Some ram → SelectionClaim mode isolation size file map imports ram
   selection-holds e =
@@ -49,7 +52,7 @@ module _ (mode : MemoryAllocationMode) (isolation : IsolationType) (size : Optio
 
   -- and an accepted map's RAM is in it
   pub selects-same : choice mode isolation size file map imports ≡ chosen ram → selection_of (ram_as (choice mode isolation size file map imports)) ≡ Some ram
-  selects-same e = rw e
+  selects-same e = rw e (ap Some (entries-of ram (chosen_in_order isolation size file map imports ram mode e).count))
 
 pub builds-some : (b : AddressSpaceManagerBuilder) (ram : List TaggedRange) (configs pools : List MemoryRange) (es : List AddressRange)
     → build b 0 ram configs pools ≡ built es → (s : AddressSpaceManager) × (planner.build b ram configs pools ≡ Some s)

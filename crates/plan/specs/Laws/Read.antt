@@ -118,7 +118,7 @@ module _ (text : List ℕ) (a : text_check text ≡ Ok tt) where
       → ram ≡ ram_as (choice_of selection)
   selection-same read h m i e = rw (h.shape, h.file, m, i) at e
 
-  selected_few : length (entries_of (choice_of selection)) ≤ max_chosen
+  pub selected_few : length (entries_of (choice_of selection)) ≤ max_chosen
   selected_few =
       choice_few (choice_of selection)
       (λ xs e. let s = selection in

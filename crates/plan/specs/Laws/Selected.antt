@@ -1,13 +1,15 @@
 -- Laws of the stages of a plan: what the answers of a selection and of a build say of the plan.
-use Rattle.std.specs.Prelude.{ℕ, ◌≡◌, refl, Bool, ◌||◌, List, length, Ok, Err}
+use Rattle.std.specs.Prelude.{ℕ, ◌≤◌, ◌≡◌, refl, Bool, ◌||◌, List, length, Ok, Err}
 use Rattle.std.proofs.Common.{ap, sym, ◌∙◌}
 use Rattle.refusal.specs.declared.Refusal.{Refusal}
 use Rattle.memory_range.specs.declared.range.MemoryRange.{MemoryRange}
 use Rattle.host_params.specs.declared.IsolationType.{IsolationType}
 use Rattle.boot_ram.specs.Held.{bytes_of}
+use Rattle.boot_ram.specs.Verdict.{max_chosen}
 use Rattle.vtl2_ram.specs.declared.ram.Vtl2Ram.{Vtl2Ram}
-use Rattle.vtl2_ram.specs.Choice.{Choice, refused, chosen}
-use Rattle.vtl2_ram.specs.Ram.{ram_as}
+use Rattle.vtl2_ram.specs.Choice.{Choice, refused, chosen, entries_of}
+use Rattle.vtl2_ram.specs.Ram.{ram_of, ram_entries, ram_as}
+use Rattle.vtl2_ram.specs.Laws.Ram.{entries-of}
 use Rattle.address_space.specs.declared.table.AddressSpaceManager.{AddressSpaceManager}
 use Rattle.address_space.specs.Table as table_of
 use Rattle.address_space.specs.Laws.Split.{entries_with}
@@ -22,14 +24,16 @@ use Rattle.plan.specs.Planner as plan
 
 -- a selection's answer holds what selection comes to
 pub record Held (ram : Vtl2Ram) (selection : Choice) : Type 0 where
-  pub total : ram.bytes ≡ bytes_of ram.entries.items
-  pub choice : selection ≡ chosen ram.entries.items
+  pub few : ram.count ≤ max_chosen
+  pub total : ram.bytes ≡ bytes_of (ram_entries ram)
+  pub choice : selection ≡ chosen (ram_entries ram)
 
-pub selected-held : (selection : Choice) {ram : Vtl2Ram} → ram_as selection ≡ Ok ram → Held ram selection
-selected-held (refused r) e = absurd cc
-selected-held (chosen xs) {ram} e =
-    let same : record { entries = record { items = xs }; bytes = bytes_of xs } ≡ ram = cc in
-    rw (← same) (record { total = refl; choice = refl })
+pub selected-held : (selection : Choice) {ram : Vtl2Ram} → length (entries_of selection) ≤ max_chosen → ram_as selection ≡ Ok ram → Held ram selection
+selected-held (refused r) few e = absurd cc
+selected-held (chosen xs) {ram} few e =
+    let same : ram_of xs ≡ ram = cc in
+    let held = entries-of xs few in
+    rw (← same) (record { few = few; total = ap bytes_of (sym held); choice = ap chosen (sym held) })
 
 -- and is refused where that is
 as_refused : (selection : Choice) {r : Refusal} → ram_as selection ≡ Err r → selection ≡ refused r
@@ -48,7 +52,7 @@ module _ (text : List ℕ) (isolation : IsolationType) (pool : Pool) (builder : 
 -- after a selection the table is built
 pub selected-chosen : {text : List ℕ} {isolation : IsolationType} {pool : Pool} {builder : AddressSpaceManagerBuilder}
     {gets : List Get} {configs pools : List MemoryRange} {ram : Vtl2Ram} → Selected text isolation pool builder gets configs pools ram
-    → let xs = ram.entries.items in plan_of text ≡ after_build isolation pool xs gets (build builder 0 xs configs pools)
+    → let xs = ram_entries ram in plan_of text ≡ after_build isolation pool xs gets (build builder 0 xs configs pools)
 selected-chosen s = s.plan
 
 -- a new table has no entry

@@ -23,8 +23,9 @@ use Rattle.host_map.specs.Rows.{check_start, checked_all}
 use Rattle.host_map.specs.Laws.Rows.{valid_by, ascending_by, valid-three}
 use Rattle.boot_ram.specs.Verdict.{max_chosen}
 use Rattle.vtl2_ram.specs.declared.ram.Vtl2Ram.{Vtl2Ram}
-use Rattle.vtl2_ram.specs.Choice.{Choice, refused, chosen}
-use Rattle.vtl2_ram.specs.Ram.{ram_as, ram_of}
+use Rattle.vtl2_ram.specs.Choice.{Choice, refused, chosen, entries_of}
+use Rattle.vtl2_ram.specs.Ram.{ram_of, ram_entries, ram_as}
+use Rattle.vtl2_ram.specs.Laws.Ram.{entries-of}
 use Rattle.vtl2_ram.specs.Rows.{counts_good, rows_known}
 use Rattle.vtl2_ram.specs.Select.{choice}
 use Rattle.plan_input.specs.Room.{map_room, import_room}
@@ -140,9 +141,13 @@ pub choice_err : (c : Choice) {e : Refusal} → ram_as c ≡ Err e → chosen_as
 choice_err (refused n) h = cc
 choice_err (chosen xs) h = absurd (grind arith)
 
-pub choice_ok : (c : Choice) {r : Vtl2Ram} → ram_as c ≡ Ok r → chosen_as c ≡ Ok r.entries.items
-choice_ok (refused n) h = absurd (grind arith)
-choice_ok (chosen xs) {r} h = let e : ram_of xs ≡ r = cc in ap (λ (q : Vtl2Ram). Ok q.entries.items) e
+pub choice_ok : (c : Choice) {r : Vtl2Ram} → length (entries_of c) ≤ max_chosen → ram_as c ≡ Ok r
+    → (chosen_as c ≡ Ok (ram_entries r)) × (length (ram_entries r) ≤ max_chosen)
+choice_ok (refused n) few h = absurd (grind arith)
+choice_ok (chosen xs) {r} few h =
+    let e : ram_of xs ≡ r = cc in
+    let held = entries-of xs few in
+    rw (← e, held) (refl, few)
 
 -- the words of the most entries fit where there is room for them
 pub words_fit : (xs : List TaggedRange) (ram : List ℕ) → length xs ≤ max_chosen → ram_size_of ≤ length ram

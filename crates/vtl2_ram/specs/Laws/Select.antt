@@ -1,6 +1,7 @@
 -- The claims of every accepted selection: in both modes the chosen entries are in order, of whole pages, and at
 -- most 64; in boot mode they meet the claim of boot mode.
-use Rattle.std.specs.Prelude.{ℕ, ◌≡◌, refl, List, [], ◌∷◌, length, Option, None}
+use Rattle.std.specs.Prelude.{ℕ, ◌≤◌, ◌≡◌, refl, List, [], ◌∷◌, length, Option, None}
+use Rattle.std.proofs.Common.{arith}
 use Rattle.memory_range.specs.declared.range.MemoryRange.{MemoryRange}
 use Rattle.memory_range.specs.declared.range.TaggedRange.{TaggedRange}
 use Rattle.memory_range.specs.List.{ranges_in, tagged, tags_of}
@@ -15,6 +16,7 @@ use Rattle.host_params.specs.declared.MemoryEntry.{MemoryEntry}
 use Rattle.host_params.specs.declared.MemoryMapEntryType.TheVariants.{Vtl2Protectable}
 use Rattle.boot_ram.specs.File.{file_walk}
 use Rattle.boot_ram.specs.Import.{import_walk}
+use Rattle.boot_ram.specs.Verdict.{max_chosen}
 use Rattle.boot_nodes.specs.Node.{nodes_bad, nodes_in}
 use Rattle.boot_take.specs.Take.{taking}
 use Rattle.boot_nodes.specs.Laws.Node.{distinct-ascends}
@@ -22,7 +24,7 @@ use Rattle.boot_ram.specs.Laws.Paged.{entries-valid}
 use Rattle.refusal.specs.Number.{node_numbers}
 use Rattle.refusal.specs.Rows.{refused_if, downward}
 use Rattle.vtl2_ram.specs.Boot.{share_refusal, after_imports, beside_file, boot_parts, boot_choice, RowsPassed}
-use Rattle.vtl2_ram.specs.Choice.{chosen}
+use Rattle.vtl2_ram.specs.Choice.{Choice, refused, chosen, entries_of}
 use Rattle.vtl2_ram.specs.Claim.{share_in, InOrder, BootClaim}
 use Rattle.host_map.specs.Map.{map_ranges, entries_in}
 use Rattle.vtl2_ram.specs.Rows.{rows_refusal, rows_known}
@@ -82,6 +84,15 @@ module _ (isolation : IsolationType) (size : (Option ℕ)) (file : MemoryRange) 
   pub chosen_in_order : (mode : MemoryAllocationMode) → choice mode isolation size file map imports ≡ chosen ram → InOrder ram
   chosen_in_order Host e = host_in_order e
   chosen_in_order Vtl2 e = boot_in_order e
+
+-- so at most 64 entries are chosen
+pub choice_few : (mode : MemoryAllocationMode) (isolation : IsolationType) (size : Option ℕ) (file : MemoryRange) (map : List MemoryEntry)
+    (imports : List MemoryRange) → length (entries_of (choice mode isolation size file map imports)) ≤ max_chosen
+choice_few mode isolation size file map imports = go (choice mode isolation size file map imports) refl
+  where
+    go : (c : Choice) → choice mode isolation size file map imports ≡ c → length (entries_of c) ≤ max_chosen
+    go (refused r) e = omega arith
+    go (chosen xs) e = (chosen_in_order isolation size file map imports xs mode e).count
 
 -- a map is accepted: one entry with the file in it, and no size given
 pub one-accepted :

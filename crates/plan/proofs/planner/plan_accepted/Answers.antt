@@ -12,7 +12,7 @@ use Rattle.plan_input.specs.Record.{records_at}
 use Rattle.plan.specs.Planner.{plan_of, after_choice, choice_of, selection_given, TextRead}
 use Rattle.plan.specs.Laws.Planner.{answers_refused}
 use Rattle.plan.specs.Laws.Selected.{selected_refused, selected-held, selected}
-use Rattle.plan.specs.Laws.Read.{selection_valid, build_valid, text_invalid, text_descends, text-selected, selection-same}
+use Rattle.plan.specs.Laws.Read.{selection_valid, build_valid, text_invalid, text_descends, text-selected, selection-same, selected_few}
 use Rattle.plan.proofs.planner.plan_accepted.Goals as goal
 use Rattle.plan.proofs.planner.plan_accepted.Goals.{then-read, else-read}
 
@@ -68,4 +68,4 @@ plan_ram-requires-clause-selected c =
     elim c.if-read.branch [ then-read w ↦ rw w.if-read.true w.value-is | else-read w ↦ rw w.if-read.false (w.value-is ∙ w.if-read.false) ] in
     let plan = passed r both c.if-not-read.false c.if-not-ascending.false in
     let same = selection-same c.args.text.now r.accepted c.args.read.selection r.selection r.map-room r.imports_room c.select_ram.ensures in
-    selected _ _ _ _ _ _ _ _ plan (selected-held _ (sym same ∙ c.in_ok-ram.was))
+    selected _ _ _ _ _ _ _ _ plan (selected-held _ (selected_few c.args.text.now r.accepted) (sym same ∙ c.in_ok-ram.was))

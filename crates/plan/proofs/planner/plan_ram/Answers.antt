@@ -10,12 +10,12 @@ pub returns-in_err-init : goal.returns-in_err-init
 returns-in_err-init c =
     let p = err_from_is_err_and c.from_residual.result c.from_residual.ensures.1 in
     let e = rw (← new_empty c.new.ensures) at (selected-chosen c.requires.selected) in
-    let i = rw c.as_slice-entries.ensures.value at c.init-init.ensures in
+    let i = rw c.as_slice-entries.ensures at c.init-init.ensures in
     rw (p.1, p.2) (answers_refused (e ∙ ap (after_build _ _ _ _) (init_refused c.new.result _ _ i c.in_err-init.was)))
 
 -- the build on a new table
 pub plan_table-requires-clause-plan : goal.plan_table-requires-clause-plan
 plan_table-requires-clause-plan c =
     let e = rw (← new_empty c.new.ensures) at (selected-chosen c.requires.selected) in
-    let i = rw c.as_slice-entries.ensures.value at c.init-init.ensures in
+    let i = rw c.as_slice-entries.ensures at c.init-init.ensures in
     e ∙ ap (after_build _ _ _ _) (init-built c.new.result _ _ i c.in_ok-init.was)

@@ -23,7 +23,7 @@ write_plan-requires-clause-room c =
     let a = c.args in
     let held = answer-placed a.table (pages_wanted a.isolation a.pool.pool a.ram.now.bytes) a.pool.pool.split c.place_pool-placed.ensures c.in_ok-count.was in
     let p = planned a.text.now _ _ (rw (← c.requires.total) at c.requires.plan) held in
-    rw c.as_slice-entries.ensures.value (plan_room a.text.now _ a.output.now c.requires.suffices p)
+    rw c.as_slice-entries.ensures (plan_room a.text.now _ a.output.now c.requires.suffices p)
 
 pub returns-in_err-count : goal.returns-in_err-count
 returns-in_err-count c =
@@ -36,4 +36,4 @@ pub returns : goal.returns
 returns c =
     let a = c.args in
     let held = answer-placed a.table (pages_wanted a.isolation a.pool.pool a.ram.now.bytes) a.pool.pool.split c.place_pool-placed.ensures c.in_ok-count.was in
-    answers-lines (planned a.text.now _ _ (rw (← c.requires.total) at c.requires.plan) held) (rw c.as_slice-entries.ensures.value at c.write_plan.ensures)
+    answers-lines (planned a.text.now _ _ (rw (← c.requires.total) at c.requires.plan) held) (rw c.as_slice-entries.ensures at c.write_plan.ensures)
