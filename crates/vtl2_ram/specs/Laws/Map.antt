@@ -1,16 +1,16 @@
--- Laws of the host's map: the protectable entries of a map in order are in order, and its ranges are those of its entries.
+-- Laws of the host's map: the protectable entries of a map in order are in order, and its ranges are those of its entries. Those of a map
+-- in four lists are passed on.
 use Rattle.std.specs.Prelude.{ℕ, suc, ◌≡◌, refl, Bool, true, false, List, [], ◌∷◌, map, length}
 use Rattle.std.proofs.Common.{ap, arith}
 use Rattle.std.proofs.Math.Bool.{and-eq-true_iff}
 use Rattle.memory_range.specs.Bytes.{Ordered}
-use Rattle.memory_range.specs.List.{ranges_in}
-use Rattle.memory_range.specs.Range.{range}
+use Rattle.memory_range.specs.List.{ranges_in, tagged_of, tags_of}
 use Rattle.memory_range.specs.Valid.{valid_range, all_valid_of}
 use Rattle.memory_range.specs.Laws.Bytes.{ordered-before}
 use Rattle.host_params.specs.declared.MemoryEntry.{MemoryEntry}
-use Rattle.host_params.specs.declared.MemoryMapEntryType.{MemoryMapEntryType}
-use Rattle.host_params.specs.declared.MemoryMapEntryType.TheVariants.{Vtl2Protectable, Memory}
-use Rattle.host_map.specs.Map.{type_of, map_ranges, is_protectable, protectable_in}
+use Rattle.host_map.specs.Map.{map_ranges, is_protectable, protectable_in}
+pub use Rattle.host_map.specs.Laws.Map.{length-map, entry_of, entry-again, map-again, past-entries, next-listed, next-entry, next-protectable, next-passed}
+pub use Rattle.host_map.specs.Laws.Map.{map-entries, map-ranges, first_within, map_first, first_lengths}
 
 pub protectable-ordered : (a : ℕ) (map : List MemoryEntry) → Ordered a (map_ranges map) → Ordered a (ranges_in (protectable_in map))
 protectable-ordered a [] o = tt
@@ -42,13 +42,10 @@ pub entry-ranges : (m : List MemoryEntry) → map (λ e. e.range) m ≡ map_rang
 entry-ranges [] = refl
 entry-ranges (e ∷ es) = ap (e.range ∷◌) (entry-ranges es)
 
--- an entry by its start, end and node, and whether it is protectable
-abbrev pub entry_of : ℕ → ℕ → ℕ → Bool → MemoryEntry
-entry_of s e n l = record { range = range s e; vnode = n; mem_type = type_of l }
-
-type-again : (t : MemoryMapEntryType) → type_of (is_protectable t) ≡ t
-type-again Vtl2Protectable = refl
-type-again Memory = refl
-
-pub entry-again : (e : MemoryEntry) → entry_of e.range.start e.range.end e.vnode (is_protectable e.mem_type) ≡ e
-entry-again e = rw (type-again e.mem_type)
+-- the tags of lists of one length are the third
+pub all_tags : (ss es ns : List ℕ) → length es ≡ length ss → length ns ≡ length ss → tags_of (tagged_of ss es ns) ≡ ns
+all_tags [] es [] he hn = refl
+all_tags [] es (n ∷ ns) he hn = absurd (omega arith)
+all_tags (s ∷ ss) [] ns he hn = absurd (omega arith)
+all_tags (s ∷ ss) (e ∷ es) [] he hn = absurd (omega arith)
+all_tags (s ∷ ss) (e ∷ es) (n ∷ ns) he hn = rw (all_tags ss es ns (omega arith) (omega arith))
