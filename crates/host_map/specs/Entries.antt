@@ -3,7 +3,7 @@ use Rattle.std.specs.Prelude.{ℕ, ◌+◌, ◌%◌, List, [], ◌∷◌, length
 use Rattle.memory_range.specs.Range.{range}
 use Rattle.host_params.specs.declared.MemoryEntry.{MemoryEntry}
 use Rattle.host_params.specs.declared.MemoryMapEntryType.TheVariants.{Memory}
-use Rattle.host_map.specs.declared.rows.RangeCheck.{RangeCheck}
+use Rattle.host_map.specs.declared.entries.Entries.{Entries}
 use Rattle.host_map.specs.Map.{max_entries, map_ranges}
 use Rattle.host_map.specs.Rows.{check_start, checked_all}
 
@@ -19,12 +19,6 @@ no_entries = replicate max_entries no_entry
 abbrev pub stored_from : ℕ → List MemoryEntry → List MemoryEntry → List MemoryEntry
 stored_from i held [] = held
 stored_from i held (e ∷ es) = stored_from (i + 1) (set held (i % max_entries) e) es
-
--- a map in an array of 1,024 places, how many entries it has, and rows 4 and 5 of all of them
-pub record Entries : Type 0 where
-  pub entries : List MemoryEntry
-  pub count : ℕ
-  pub check : RangeCheck
 
 -- the copy of a map: its entries, how many there are, and rows 4 and 5 of them
 abbrev pub entries_held : List MemoryEntry → Entries

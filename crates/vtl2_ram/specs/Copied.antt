@@ -1,12 +1,12 @@
--- Selection from a copy of the map, as `entries_held` (host_map/Entries) makes one: 1,024 places, with rows 4 and 5 looked at over all
--- entries on the way. The code lends the map to the end and makes none.
+-- Selection from a copy of the map, as `entries_held` (host_map/Entries) says it: 1,024 places, with rows 4 and 5 looked at over all
+-- entries on the way. A map that is lent as a list of entries is not copied; one in lists of its fields is.
 use Rattle.std.specs.Prelude.{ℕ, ◌≤◌, ◌≡◌, List, take, Option}
 use Rattle.refusal.specs.Rows.{unless}
 use Rattle.memory_range.specs.declared.range.MemoryRange.{MemoryRange}
 use Rattle.host_params.specs.declared.IsolationType.{IsolationType}
 use Rattle.host_params.specs.declared.MemoryAllocationMode.{MemoryAllocationMode}
 use Rattle.host_params.specs.declared.MemoryEntry.{MemoryEntry}
-use Rattle.host_map.specs.Entries.{Entries}
+use Rattle.host_map.specs.declared.entries.Entries.{Entries}
 use Rattle.host_map.specs.Map.{max_entries, map_ranges}
 use Rattle.host_map.specs.Rows.{check_start, checked_all}
 use Rattle.boot_nodes.specs.declared.node.NumaNodes.{NumaNodes}

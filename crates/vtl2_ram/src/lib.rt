@@ -8,4 +8,4 @@ mod rows;
 mod select;
 
 pub use ram::Vtl2Ram;
-pub use select::select_vtl2_ram;
+pub use select::{select_from_array, select_from_lists, select_vtl2_ram};

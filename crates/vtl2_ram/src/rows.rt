@@ -21,7 +21,7 @@ fn counts_good(mode: MemoryAllocationMode, map_count: usize, import_count: usize
 
 // Row 4 over all ranges, then 5 over both lists, then 6. Of the map it is known what was seen of its ranges.
 #[tactic(auto, unfolding(crate::specs::Rows::rows_known))]
-fn check_known(
+pub(crate) fn check_known(
     mode: MemoryAllocationMode,
     file: MemoryRange,
     map_check: RangeCheck,

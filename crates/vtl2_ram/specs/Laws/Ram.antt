@@ -1,7 +1,7 @@
 -- Laws of the chosen RAM: its bytes as a sum over ranges in order, which no address exceeds, and its entries as the
 -- array of the answer holds them.
 use Rattle.std.specs.Prelude.{ℕ, ◌+◌, ◌≤◌, ◌≡◌, List, ◌∷◌, ◌++◌, length, take, drop, replicate}
-use Rattle.std.proofs.Common.{sym, ap, ◌∙◌, arith, length-take, zero-add}
+use Rattle.std.proofs.Common.{ap, ◌∙◌, arith, length-take, zero-add}
 use Rattle.std.proofs.Math.Seq.{take-append_seam}
 use Rattle.std.proofs.lemmas.List.{length-replicate}
 use Rattle.std.proofs.lemmas.List.Edits.{sets, sets-eq}

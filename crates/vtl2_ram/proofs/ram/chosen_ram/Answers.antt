@@ -1,7 +1,4 @@
 -- The entries that are listed stand in the first places, and in those behind them is none.
-use Rattle.std.proofs.Common.{sym, ap, ◌∙◌, List, ◌++◌, length, drop}
-use Rattle.memory_range.specs.declared.range.TaggedRange.{TaggedRange}
-use Rattle.vtl2_ram.specs.Ram.{no_entries}
 use Rattle.vtl2_ram.specs.Laws.Ram.{entries-stored}
 use Rattle.vtl2_ram.proofs.ram.chosen_ram.Goals as goal
 

@@ -1,7 +1,6 @@
 -- Rows that pass say of the lists what the mode's own function asks of them.
 use Rattle.std.proofs.Common.{sym}
 use Rattle.std.proofs.lemmas.Result.{err_from_is_err_and}
-use Rattle.memory_range.specs.Laws.Valid.{valid-ordered}
 use Rattle.refusal.specs.Laws.Answer.{rows_refused, rows_none}
 use Rattle.host_map.specs.Map.{map_ranges}
 use Rattle.vtl2_ram.specs.Select.{choice}
@@ -14,27 +13,12 @@ returns-in_err-check_rows c =
     let p = err_from_is_err_and c.from_residual.result c.from_residual.ensures.1 in
     rw (p.1, p.2, rows_refused _ (sym c.in_err-check_rows.ensures))
 
-pub parse_host_vtl2_ram-requires-clause-file_valid : goal.parse_host_vtl2_ram-requires-clause-file_valid
-parse_host_vtl2_ram-requires-clause-file_valid c =
-    let a = c.args in
-    (rows-passed a.mode a.file (map_ranges a.map.now) a.imports.now (rows_none _ (sym c.in_ok-check_rows.ensures))).0
-
-pub parse_host_vtl2_ram-requires-clause-ordered : goal.parse_host_vtl2_ram-requires-clause-ordered
-parse_host_vtl2_ram-requires-clause-ordered c =
-    let a = c.args in
-    let p = rows-passed a.mode a.file (map_ranges a.map.now) a.imports.now (rows_none _ (sym c.in_ok-check_rows.ensures)) in
-    valid-ordered 0 (map_ranges a.map.now) p.1 p.3
-
-pub allocate_vtl2_ram-requires : goal.allocate_vtl2_ram-requires
-allocate_vtl2_ram-requires c =
+pub select_passed-requires : goal.select_passed-requires
+select_passed-requires c =
     let a = c.args in
     let p = rows-passed a.mode a.file (map_ranges a.map.now) a.imports.now (rows_none _ (sym c.in_ok-check_rows.ensures)) in
     (p.0, p.1, p.3, p.2, p.4)
 
-pub returns-in-Host : goal.returns-in-Host
+pub returns : goal.returns
 unfolding choice
-returns-in-Host c = rw (rows_none _ (sym c.in_ok-check_rows.ensures), c.in-Host.is) c.parse_host_vtl2_ram.ensures
-
-pub returns-in-Vtl2 : goal.returns-in-Vtl2
-unfolding choice
-returns-in-Vtl2 c = rw (rows_none _ (sym c.in_ok-check_rows.ensures), c.in-Vtl2.is) c.allocate_vtl2_ram.ensures
+returns c = rw (rows_none _ (sym c.in_ok-check_rows.ensures)) c.select_passed.ensures
