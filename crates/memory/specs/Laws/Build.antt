@@ -1,6 +1,7 @@
--- Laws of the build: how the answers of its parts make that of the build.
+-- Laws of the build: what the first places of three lists of numbers hold, as callers may hold ranges, and what a sort
+-- of them leaves there; and how the answers of its parts make that of the build.
 use Rattle.std.specs.Prelude.{ℕ, ◌+◌, ◌≤◌, ◌<◌, ◌≡◌, refl, Bool, true, false, not, List, [], ◌∷◌, ◌++◌, ltb, eqb, length, take, drop, Option, Some, None, Result}
-use Rattle.std.proofs.Common.{ap, sym, ◌∙◌, arith, lt-ltb, le-ltb, ne_eqb}
+use Rattle.std.proofs.Common.{ap, sym, ◌∙◌, append-nil, arith, lt-ltb, le-ltb, ne_eqb, length-take, drop_of_length-le}
 use Rattle.std.proofs.Math.Bool.{or-true}
 use Rattle.std.proofs.Math.Seq.{take-append_seam}
 use Rattle.std.specs.List.{refill}
@@ -9,9 +10,10 @@ use Rattle.refusal.specs.Rows.{refused_if, unless}
 use Rattle.refusal.specs.Laws.Rows.{downward_last}
 use Rattle.memory_range.specs.declared.range.MemoryRange.{MemoryRange}
 use Rattle.memory_range.specs.declared.range.TaggedRange.{TaggedRange}
-use Rattle.memory_range.specs.List.{ranges_in}
-use Rattle.range_lists.specs.Sort.{sort_by_start}
+use Rattle.memory_range.specs.List.{ranges_of, ranges_in, first_tagged, starts_of, ends_of, tags_of}
+use Rattle.range_lists.specs.Sort.{sort_by_start, starts_sorted, ends_sorted, tags_sorted}
 use Rattle.memory_range.specs.Valid.{all_valid_of, ascend}
+use Rattle.memory_range.specs.Laws.List.{length-tagged, length_starts, length-ends, length_tags, fields-tagged, ranges_alike, length-first}
 use Rattle.range_lists.specs.Laws.Sort.{sort-length}
 use Rattle.memory_range.specs.Laws.Valid.{valid-parts}
 use Rattle.address_space.specs.declared.table.AddressSpaceManager.{AddressSpaceManager}
@@ -31,6 +33,47 @@ pub sorted-in-place : {xs ys zs ss : List TaggedRange} → ys ≡ xs → zs ≡ 
 sorted-in-place {xs} y z s =
     let ss = sort_by_start xs in
     rw (s, z, y) (ap (λ (n : ℕ). take n (ss ++ drop (length ss) xs)) (sym (sort-length xs)) ∙ take-append_seam ss (drop (length ss) xs))
+
+-- the first n places of an array hold a field of ranges, as the sort leaves them
+sorted-field : (field : List TaggedRange → List ℕ) → ((xs : List TaggedRange) → length (field xs) ≡ length xs)
+    → (xs : List TaggedRange) (n : ℕ) (l : List ℕ) {l' : List ℕ} → length xs ≡ n → l' ≡ field (sort_by_start xs) ++ drop (length xs) (take n l)
+    → take n (l' ++ drop n l) ≡ field (sort_by_start xs)
+sorted-field field len xs n l h e =
+    let nothing = drop_of_length-le (take n l) {i = n} (simp length-take (omega arith)) in
+    let same : n ≡ length (field (sort_by_start xs)) = sym h ∙ sym (sort-length xs) ∙ sym (len (sort_by_start xs)) in
+    rw (e, h, nothing, append-nil, same) (take-append_seam (field (sort_by_start xs)) (drop (length (field (sort_by_start xs))) l))
+
+-- the first n places of three arrays are there, and hold the ranges
+pub record Held (n : ℕ) (xs : List TaggedRange) (ss es ts : List ℕ) : Type 0 where
+  pub room : (n ≤ length ss) × (n ≤ length es) × (n ≤ length ts)
+  pub found : first_tagged n ss es ts ≡ xs
+
+-- n ranges have n places
+pub held-counted : {n : ℕ} {xs : List TaggedRange} {ss es ts : List ℕ} → first_tagged n ss es ts ≡ xs → length xs ≡ n → Held n xs ss es ts
+held-counted {n} {xs} {ss} {es} {ts} e h =
+    let l = simp (length-tagged, length-take) at (ap length e ∙ h) in
+    record { room = (omega arith, omega arith, omega arith); found = e }
+
+module _ {n : ℕ} {xs : List TaggedRange} {ss es ts : List ℕ} (h : Held n xs ss es ts) where
+  pub held-places : length xs ≡ n
+  held-places = let l = rw h.found at (length-first n ss es ts) in let r = h.room in omega arith
+
+  pub held-ranges : ranges_of (take n ss) (take n es) ≡ ranges_in xs
+  held-ranges =
+      let r = h.room in
+      sym (ranges_alike (take n ss) (take n es) (take n ts) (simp length-take (omega arith))) ∙ ap ranges_in h.found
+
+  -- the sort of these places leaves the ranges there, sorted
+  pub held_sorted : {ss' es' ts' : List ℕ} → ss' ≡ starts_sorted (take n ss) (take n es) (take n ts)
+      → es' ≡ ends_sorted (take n ss) (take n es) (take n ts) → ts' ≡ tags_sorted (take n ss) (take n es) (take n ts)
+      → Held n (sort_by_start xs) (ss' ++ drop n ss) (es' ++ drop n es) (ts' ++ drop n ts)
+  unfolding starts_sorted ends_sorted tags_sorted
+  held_sorted p q r =
+      let c = held-places in
+      let x = sorted-field starts_of length_starts xs n ss c (rw h.found at p) in
+      let y = sorted-field ends_of length-ends xs n es c (rw h.found at q) in
+      let z = sorted-field tags_of length_tags xs n ts c (rw h.found at r) in
+      held-counted (rw (x, y, z) (fields-tagged (sort_by_start xs))) (sort-length xs ∙ c)
 
 -- the used range has a byte
 used-has_byte : (b : AddressSpaceManagerBuilder) → singles_valid b ≡ true → HasByte b.bootshim_used

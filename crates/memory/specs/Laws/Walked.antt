@@ -14,7 +14,8 @@ use Rattle.range_lists.specs.declared.walk.RangeWalkResult.TheVariants.{Left, Ri
 use Rattle.range_lists.specs.declared.walk.WalkCursor.{WalkCursor}
 use Rattle.range_lists.specs.declared.walk.WalkPiece.{WalkPiece}
 use Rattle.range_lists.specs.Walk.{walk_from, walk_stepped}
-use Rattle.memory_range.specs.List.{ranges_in, tagged, tags_of}
+use Rattle.range_lists.specs.Laws.Entries.{ranges-tagged}
+use Rattle.memory_range.specs.List.{ranges_in, ranges_of, tagged, tagged_of, tags_of}
 use Rattle.address_space.specs.declared.table.AddressRange.{AddressRange}
 use Rattle.address_space.specs.declared.table.AddressSpaceManager.{AddressSpaceManager}
 use Rattle.address_space.specs.Table.{max_address_ranges, pool_of}
@@ -23,6 +24,11 @@ use Rattle.memory.specs.Rows.{max_ram, max_reserved}
 use Rattle.memory.specs.Used.{max_used, is_right, any_right, any_outside, used_piece, used_pieces, pieces_of, ListedIn}
 use Rattle.memory.specs.Laws.Count.{pieces-count, table-count}
 use Rattle.memory.specs.Laws.Listed.{listed-not, listed_as}
+
+-- lists of numbers beside each other, as callers may hold them: as many starts and ends as there are tagged ranges are
+-- their ranges
+pub first-ranges : (ss es ts : List ℕ) {n : ℕ} → n ≡ length (tagged_of ss es ts) → ranges_of (take n ss) (take n es) ≡ ranges_in (tagged_of ss es ts)
+first-ranges ss es ts e = rw e (ranges-tagged ss es ts)
 
 -- a step of a walk is one of the walk of equal lists
 pub step_as : {ls rs ls' rs' : List MemoryRange} (at : WalkCursor) (step : Option (WalkPiece × WalkCursor)) → ls ≡ ls' → rs ≡ rs'
