@@ -8,4 +8,5 @@ pub mod OnNode
 pub mod Paged
 pub mod Verdict
 pub mod Walks
+pub mod Written
 pub mod Wrong

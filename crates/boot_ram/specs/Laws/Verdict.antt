@@ -1,11 +1,12 @@
 -- Laws of what becomes of pieces, one for each way that a turn can end: what they come to behind the pieces that are held.
-use Rattle.std.specs.Prelude.{ℕ, ◌+◌, ◌≤◌, ◌<◌, ◌≡◌, List, [], ◌∷◌, ◌++◌, length, Option, Some, None}
-use Rattle.std.proofs.Common.{refl, sym, ap, ◌∙◌, arith, append_assoc, length-append, lt-ltb, le-ltb}
+use Rattle.std.specs.Prelude.{ℕ, ◌+◌, ◌≤◌, ◌<◌, ◌≡◌, List, [], ◌∷◌, ◌++◌, length, set, Option, Some, None}
+use Rattle.std.proofs.Common.{refl, sym, ap, ◌∙◌, arith, append_assoc, length-append, length-set, lt-ltb, le-ltb}
 use Rattle.std.proofs.lemmas.List.{append-nil}
 use Rattle.std.proofs.lemmas.Option.{none-some}
 use Rattle.std.proofs.Math.Decide.{dec_lt}
 use Rattle.memory_range.specs.declared.range.TaggedRange.{TaggedRange}
-use Rattle.boot_ram.specs.Verdict.{Verdict, free, choose, refuse, pass, max_free, max_chosen, Judged, ends, with_free, with_chosen, judged, behind}
+use Rattle.memory_range.specs.List.{starts_of, ends_of, tags_of}
+use Rattle.boot_ram.specs.Verdict.{Verdict, free, choose, refuse, pass, max_free, max_chosen, Judged, ends, with_free, with_chosen, judged, behind, written, WrittenTo}
 use Rattle.refusal.specs.declared.Refusal.{Refusal}
 use Rattle.refusal.specs.Number.{too_many_pieces}
 
@@ -96,3 +97,32 @@ held_refused fs cs (choose x ∷ vs) ws e =
     ]
 held_refused fs cs (refuse r ∷ vs) ws e = e
 held_refused fs cs (pass ∷ vs) ws e = held_refused fs cs vs ws e
+
+-- lists of numbers beside each other, as callers may hold them: to write xs from place k on into them as they are now is
+-- to write xs₀ from place k₀ on into them as they were
+pub record Writes (k₀ : ℕ) (xs₀ : List TaggedRange) (ss₀ es₀ ts₀ : List ℕ) (k : ℕ) (xs : List TaggedRange) (ss es ts : List ℕ) : Type 0 where
+  pub count : k₀ + length xs₀ ≡ k + length xs
+  pub starts : written k₀ (starts_of xs₀) ss₀ ≡ written k (starts_of xs) ss
+  pub ends : written k₀ (ends_of xs₀) es₀ ≡ written k (ends_of xs) es
+  pub tags : written k₀ (tags_of xs₀) ts₀ ≡ written k (tags_of xs) ts
+  pub lengths : (length ss ≡ length ss₀) × (length es ≡ length es₀) × (length ts ≡ length ts₀)
+
+pub writes-all : (k₀ : ℕ) (xs₀ : List TaggedRange) (ss₀ es₀ ts₀ : List ℕ) → Writes k₀ xs₀ ss₀ es₀ ts₀ k₀ xs₀ ss₀ es₀ ts₀
+writes-all k₀ xs₀ ss₀ es₀ ts₀ = record { count = refl; starts = refl; ends = refl; tags = refl; lengths = (refl, refl, refl) }
+
+module _ {k₀ k : ℕ} {xs₀ : List TaggedRange} {ss₀ es₀ ts₀ ss es ts : List ℕ} where
+  -- the next one is written
+  pub writes-next : {x : TaggedRange} {xs : List TaggedRange} {t : ℕ} {ss' es' ts' : List ℕ}
+      → ss' ≡ set ss k x.range.start → es' ≡ set es k x.range.end → ts' ≡ set ts k t → x.tag ≡ t
+      → Writes k₀ xs₀ ss₀ es₀ ts₀ k (x ∷ xs) ss es ts → Writes k₀ xs₀ ss₀ es₀ ts₀ (k + 1) xs ss' es' ts'
+  writes-next p q r n w = rw (p, q, r, ← n) record {
+    count = omega (arith, w.count);
+    starts = w.starts;
+    ends = w.ends;
+    tags = w.tags;
+    lengths = simp length-set w.lengths;
+  }
+
+  -- none is left
+  pub writes-none : Writes k₀ xs₀ ss₀ es₀ ts₀ k [] ss es ts → WrittenTo k₀ xs₀ ss₀ es₀ ts₀ ss es ts
+  writes-none w = (sym w.starts, sym w.ends, sym w.tags)
