@@ -1,11 +1,12 @@
 -- Laws of the taking: what a node still needs beside pieces, what it takes of the first so many free entries, one entry at a time
 -- from the top, and the nodes one after the other.
 use Rattle.std.specs.Prelude.{ℕ, suc, ◌+◌, ◌-◌, ◌≤◌, ◌<◌, ◌≡◌, refl, List, [], ◌∷◌, reverse, length, take, drop, get_or}
-use Rattle.std.proofs.Common.{ap, ◌∙◌, arith, add-one, eq-eqb, ne_eqb, take-suc, drop-cons}
+use Rattle.std.proofs.Common.{ap, ◌∙◌, arith, add-one, eq-eqb, ne_eqb, drop_of_length-le, take-suc, get_or-take, drop-cons}
 use Rattle.std.proofs.lemmas.List.{reverse-append}
 use Rattle.memory_range.specs.declared.range.TaggedRange.{TaggedRange}
-use Rattle.memory_range.specs.List.{tagged}
+use Rattle.memory_range.specs.List.{tagged, first_tagged}
 use Rattle.memory_range.specs.Range.{length_of}
+use Rattle.memory_range.specs.Laws.List.{length-tagged, length-first, next-tagged}
 use Rattle.boot_take.specs.Take.{taken_of, need_on, take_from}
 use Rattle.boot_ram.specs.Held.{holding, on_node}
 use Rattle.boot_nodes.specs.Node.{count_up}
@@ -65,3 +66,16 @@ count_next k n h = let e : n - k ≡ suc (n - (k + 1)) = omega arith in rw e
 
 pub count_none : (k n : ℕ) → n ≤ k → count_up k (n - k) ≡ []
 count_none k n h = let e : n - k ≡ 0 = omega arith in rw e
+
+-- lists of numbers beside each other, as callers may hold them: the entry at an index of the first so many, and none past the last
+module _ (k : ℕ) (ss es ts : List ℕ) where
+  pub past_first : (i : ℕ) → length (first_tagged k ss es ts) ≤ i → drop i (first_tagged k ss es ts) ≡ []
+  past_first i h = drop_of_length-le (first_tagged k ss es ts) {i = i} h
+
+  module _ (need n i : ℕ) (h : i < length (first_tagged k ss es ts)) where
+    next-first : drop i (first_tagged k ss es ts) ≡ tagged (get_or ss i 0) (get_or es i 0) (get_or ts i 0) ∷ drop (i + 1) (first_tagged k ss es ts)
+    next-first =
+        let l = length-tagged (take k ss) (take k es) (take k ts) in
+        let b : i < k = omega (arith, length-first k ss es ts) in
+        next-tagged (take k ss) (take k es) (take k ts) i (omega arith)
+        ∙ rw (get_or-take k ss i 0 b, get_or-take k es i 0 b, get_or-take k ts i 0 b)
