@@ -33,3 +33,11 @@ nodes_good (r ∷ rs) = ltb (get_or r 2 0) (2 ^ 32) && nodes_good rs
 -- the same of any words: of one that is no node its lowest 32 bits
 abbrev pub ram_low : List ℕ → TaggedRange
 ram_low r = tagged (get_or r 0 0) (get_or r 1 0) (get_or r 2 0 % 2 ^ 32)
+
+-- lists of numbers beside each other, as callers may hold them: a word of each row
+abbrev pub column : ℕ → List (List ℕ) → List ℕ
+column j = map (λ r. get_or r j 0)
+
+-- the node of each row: the lowest 32 bits of its word
+abbrev pub node_column : List (List ℕ) → List ℕ
+node_column = map (λ r. get_or r 2 0 % 2 ^ 32)

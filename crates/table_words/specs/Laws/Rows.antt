@@ -49,3 +49,10 @@ module _ (width : ℕ) where
 
     pub no_row : (ws : List ℕ) → length ws < width → rows width (length ws / width) ws ≡ []
     no_row ws h = rw (div-eq_of_lt h)
+
+-- the places behind an index, as stores one after the other have them
+pub add-two : (n : ℕ) → n + 2 ≡ suc (suc n)
+add-two n = omega arith
+
+pub add-three : (n : ℕ) → n + 3 ≡ suc (suc (suc n))
+add-three n = omega arith
