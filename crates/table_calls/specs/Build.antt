@@ -1,14 +1,17 @@
 -- What a build is given, as words (docs/SPEC.md, section 31).
-use Rattle.std.specs.Prelude.{ℕ, ◌/◌, ◌%◌, Bool, cond, ◌&&◌, ◌||◌, List, eqb, leb, length, get_or, Option, Some, None, Ok, Err}
+use Rattle.std.specs.Prelude.{ℕ, ◌/◌, ◌%◌, Bool, cond, ◌&&◌, ◌||◌, List, eqb, leb, length, get_or, Option, Some, None, Result, Ok, Err}
+use Rattle.refusal.specs.declared.Refusal.{Refusal}
 use Rattle.memory_range.specs.declared.range.MemoryRange.{MemoryRange}
 use Rattle.memory_range.specs.Range.{range}
 use Rattle.memory.specs.declared.builder.AddressSpaceManagerBuilder.{AddressSpaceManagerBuilder}
-use Rattle.memory.specs.Build.{Build, build, has_pool}
+use Rattle.memory.specs.declared.init.Init.{Init}
+use Rattle.memory.specs.Build.{Build, build, has_pool, init_as}
 use Rattle.memory.specs.Build as outcome
 use Rattle.table_words.specs.declared.code.CallError.TheVariants.{Refused, BadNumber}
 use Rattle.table_words.specs.Code.{Call}
 use Rattle.table_words.specs.Table.{Table, table, table_in}
 use Rattle.address_space.specs.declared.table.AddressSpaceManager.{AddressSpaceManager}
+use Rattle.address_space.specs.Table.{entries_of}
 use Rattle.table_words.specs.List.{ranges_in, ram_rows, rams_in, nodes_good}
 
 -- a range that is 0 to 0 is absent
@@ -56,3 +59,20 @@ words_build used state t ram reserved configs pools =
 abbrev pub built_in : Call AddressSpaceManager → Call Table
 built_in (Err e) = Err e
 built_in (Ok m) = Ok (table_in m)
+
+-- the answer of the build as a call: a refusal, or the whole table, with what lies behind its entries
+abbrev pub answer_call : Result (Unit {0}) Refusal → AddressSpaceManager → Call AddressSpaceManager
+answer_call (Err r) m = Err (Refused r)
+answer_call (Ok u) m = Ok m
+
+abbrev pub init_call : Init → Call AddressSpaceManager
+init_call i = answer_call i.answer i.manager
+
+-- the whole table that a build from words answers
+abbrev pub words_init : MemoryRange → MemoryRange → AddressSpaceManager → List ℕ → List ℕ → List ℕ → List ℕ → Call AddressSpaceManager
+words_init used state m ram reserved configs pools =
+    cond (given_good ram reserved configs pools)
+    (init_call
+    (init_as m (has_pool (ranges_in pools))
+    (build (builder_of used state reserved) (length (entries_of m)) (rams_in ram) (ranges_in configs) (ranges_in pools))))
+    (Err BadNumber)

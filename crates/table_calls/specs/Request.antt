@@ -1,5 +1,5 @@
 -- Requests as words, each answered on the table that the one before left (docs/SPEC.md, section 31; the rule is section 22).
-use Rattle.std.specs.Prelude.{ℕ, ◌-◌, ◌/◌, ◌^◌, Bool, cond, ◌&&◌, ◌||◌, List, [], ◌∷◌, ◌++◌, eqb, leb, ltb, length, get_or, Option, Some, None, Ok, Err}
+use Rattle.std.specs.Prelude.{ℕ, ◌-◌, ◌/◌, ◌^◌, Bool, cond, ◌&&◌, ◌||◌, List, [], ◌∷◌, ◌++◌, eqb, leb, ltb, length, get_or, Option, Some, None, Result, Ok, Err}
 use Rattle.host_params.specs.declared.AllocationPolicy.{AllocationPolicy}
 use Rattle.host_params.specs.declared.AllocationPolicy.TheVariants.{LowMemory, HighMemory}
 use Rattle.host_params.specs.declared.AllocationType.{AllocationType}
@@ -10,6 +10,7 @@ use Rattle.address_space.specs.Request.{Outcome, requested, search_refusal}
 use Rattle.address_space.specs.Request as outcome
 use Rattle.address_space.specs.Usage.{is_pool}
 use Rattle.refusal.specs.declared.Refusal.{Refusal}
+use Rattle.refusal.specs.Number.{number_of}
 use Rattle.table_words.specs.declared.code.CallError.{CallError}
 use Rattle.table_words.specs.declared.code.CallError.TheVariants.{Refused, BadNumber}
 use Rattle.table_words.specs.Code.{Call, error_code}
@@ -108,6 +109,15 @@ refusal_answer n = n ∷ 0 ∷ 0 ∷ 0 ∷ []
 abbrev pub answer_words : Call AllocatedRange → List ℕ
 answer_words (Err e) = refusal_answer (error_code e)
 answer_words (Ok x) = range_answer x
+
+-- the same of an outcome; and a request's answer as a call
+abbrev pub outcome_answer : Outcome → List ℕ
+outcome_answer (outcome.refused n) = refusal_answer (number_of n)
+outcome_answer (outcome.handed x es) = range_answer x
+
+abbrev pub request_call : Result AllocatedRange Refusal → Call AllocatedRange
+request_call (Err n) = Err (Refused n)
+request_call (Ok x) = Ok x
 
 -- the table that a request leaves: the one that it met, where refused
 abbrev pub left_by : Table → AllocationType → Call Handed → Table

@@ -4,7 +4,7 @@ ghost use Rattle.address_space.specs.Table.{entries_of};
 ghost use Rattle.memory.specs.Build.{build, has_pool, init_as};
 ghost use Rattle.table_words.specs.List.{ranges_in, rams_in};
 ghost use Rattle.table_words.specs.Table.{table_in};
-ghost use Rattle.table_calls.specs.Build.{option_of, builder_of, list_good, given_good, words_build, built_in};
+ghost use Rattle.table_calls.specs.Build.{option_of, builder_of, list_good, given_good, words_build, built_in, words_init};
 ghost use Rattle.table_calls.specs.Laws.Build.{Lists};
 
 use address_space::AddressSpaceManager;
@@ -86,7 +86,7 @@ fn build_lists(
     )
 }
 
-// The table that is built.
+// The table that is built: its entries and its flag, and as a whole, with what lies behind the entries.
 pub fn build_words(
     used: MemoryRange,
     state: MemoryRange,
@@ -96,7 +96,8 @@ pub fn build_words(
     configs: &[u64],
     pools: &[u64],
 ) -> Result<AddressSpaceManager, CallError>
-    ensures { built_in result ≡ words_build used state (table_in manager) ram.now reserved.now configs.now pools.now }
+    ensures entries { built_in result ≡ words_build used state (table_in manager) ram.now reserved.now configs.now pools.now }
+    ensures whole { result ≡ words_init used state manager ram.now reserved.now configs.now pools.now }
 {
     if !given_good(ram, reserved, configs, pools) {
         return Err(CallError::BadNumber);
