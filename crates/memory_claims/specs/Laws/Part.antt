@@ -32,12 +32,15 @@ from-page : (n : ℕ) → n % page_size ≡ 0 → Multiple page_size n
 from-page n h = (n / page_size, omega arith)
 
 -- powers of two divide each other, so each divides a page or is divided by one
+power-sum : (j k : ℕ) → 2 ^ (j + k) ≡ 2 ^ j * 2 ^ k
+power-sum = pow-add 2
+
 power-page : (k : ℕ) → Multiple page_size (2 ^ k) ⊎ Multiple (2 ^ k) page_size
 power-page k = go (dec_le 12 k)
   where
     go : Dec (12 ≤ k) → Multiple page_size (2 ^ k) ⊎ Multiple (2 ^ k) page_size
-    go (yes h) = let e : k ≡ (k - 12) + 12 = omega arith in inl (2 ^ (k - 12), ap (λ (n : ℕ). 2 ^ n) e ∙ pow-add 2 (k - 12) 12)
-    go (no h) = let e : 12 ≡ (12 - k) + k = omega arith in inr (2 ^ (12 - k), ap (λ (n : ℕ). 2 ^ n) e ∙ pow-add 2 (12 - k) k)
+    go (yes h) = let e : k ≡ (k - 12) + 12 = omega arith in inl (2 ^ (k - 12), ap (λ (n : ℕ). 2 ^ n) e ∙ power-sum (k - 12) 12)
+    go (no h) = let e : 12 ≡ (12 - k) + k = omega arith in inr (2 ^ (12 - k), ap (λ (n : ℕ). 2 ^ n) e ∙ power-sum (12 - k) k)
 
 -- the aligned part of a valid range lies inside it where it has a byte
 pub inside_aligned : (alignment : Option ℕ) (r : MemoryRange) → (aligned_to alignment r).start < (aligned_to alignment r).end
