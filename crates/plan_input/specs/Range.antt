@@ -31,3 +31,10 @@ range_first k rs = range_of (word_first k rs)
 
 abbrev pub ranges_first : ℕ → List Record → List MemoryRange
 ranges_first k rs = map range_in (words_first k rs)
+
+-- the starts and the ends of ranges, as lists of numbers beside each other
+abbrev pub starts_in : List MemoryRange → List ℕ
+starts_in = map (λ r. r.start)
+
+abbrev pub ends_in : List MemoryRange → List ℕ
+ends_in = map (λ r. r.end)

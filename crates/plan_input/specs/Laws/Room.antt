@@ -1,6 +1,6 @@
 -- What arrays hold of lists that may be longer than they are; and that selection and the build answer the same from it: each array
 -- has one place more than its row allows, so a list that is too long is refused either way.
-use Rattle.std.specs.Prelude.{ℕ, suc, zero, ◌<◌, min, ◌≡◌, refl, true, false, List, [], ◌∷◌, leb, length, take, set, Option, Some, None}
+use Rattle.std.specs.Prelude.{ℕ, suc, zero, ◌<◌, min, ◌≡◌, refl, Bool, true, false, List, [], ◌∷◌, leb, length, take, set, Option, Some, None}
 use Rattle.std.proofs.Common.{sym, ◌∙◌, true≢false, arith, length-take, take_all}
 use Rattle.std.proofs.Math.Bool.{and-eq-true_iff, and-false}
 use Rattle.std.proofs.Math.Decide.{dec_le}
@@ -12,16 +12,16 @@ use Rattle.refusal.specs.Rows.{unless}
 use Rattle.refusal.specs.Number.{map_count_of}
 use Rattle.memory_range.specs.declared.range.MemoryRange.{MemoryRange}
 use Rattle.memory_range.specs.declared.range.TaggedRange.{TaggedRange}
-use Rattle.memory_range.specs.List.{ranges_in}
+use Rattle.memory_range.specs.List.{ranges_of, ranges_in}
 use Rattle.memory_range.specs.Valid.{valid_range, all_valid_of, ascend_from, ascend}
 use Rattle.host_params.specs.declared.IsolationType.{IsolationType}
 use Rattle.host_params.specs.declared.MemoryAllocationMode.{MemoryAllocationMode}
 use Rattle.host_params.specs.declared.MemoryEntry.{MemoryEntry}
-use Rattle.host_map.specs.Map.{map_ranges}
+use Rattle.host_map.specs.Map.{map_of, map_ranges, is_protectable, map_starts_of, map_ends_of, map_nodes_of, map_protectable_of}
 use Rattle.vtl2_ram.specs.Rows.{counts_good}
 use Rattle.vtl2_ram.specs.Choice.{refused}
 use Rattle.vtl2_ram.specs.Select.{choice}
-use Rattle.vtl2_ram.specs.Laws.Map.{length-map-ranges}
+use Rattle.vtl2_ram.specs.Laws.Map.{entry-again, length-map-ranges}
 use Rattle.vtl2_ram.specs.Laws.Rows.{rows-count}
 use Rattle.memory.specs.declared.builder.AddressSpaceManagerBuilder.{AddressSpaceManagerBuilder}
 use Rattle.memory.specs.Build.{Build, refused as build_refused, build, filled}
@@ -31,6 +31,7 @@ use Rattle.memory.specs.Used.{used_of, used_refusal}
 use Rattle.memory.specs.Laws.Build.{pools_many}
 use Rattle.memory.specs.Laws.Overlap.{used_refused-none}
 use Rattle.memory.specs.Laws.Rows.{rows-passed}
+use Rattle.plan_input.specs.Range.{starts_in, ends_in}
 use Rattle.plan_input.specs.Room.{map_room, import_room, config_room, pool_room}
 
 module _ {A : Type 0} where
@@ -43,24 +44,61 @@ module _ {A : Type 0} where
   sets_behind x l i [] = refl
   sets_behind x l i (v ∷ vs) = sets_behind x (set l i v) (suc i) vs
 
-  -- values that are stored from an array's first place on: it holds those that it has room for
-  stored : (l xs : List A) (n : ℕ) → min n (length l) ≡ min (length xs) (length l) → take n (sets l 0 xs) ≡ take (length l) xs
-  stored [] xs n e = rw (sets-none 0 xs) (take-nil n)
-  stored (y ∷ l) [] zero e = refl
+-- a field of the values of a list, stored from an array's first place on: it holds those that it has room for
+module _ {A B : Type 0} (field : List A → List B) (f : A → B) (empty : field [] ≡ [])
+    (more : (x : A) (xs : List A) → field (x ∷ xs) ≡ f x ∷ field xs) where
+  stored : (l : List B) (xs : List A) (n : ℕ) → min n (length l) ≡ min (length xs) (length l)
+      → take n (sets l 0 (field xs)) ≡ field (take (length l) xs)
+  stored [] xs n e = rw (sets-none 0 (field xs), take-nil n, empty)
+  stored (y ∷ l) [] zero e = sym empty
   stored (y ∷ l) [] (suc n) e = absurd (omega arith)
   stored (y ∷ l) (x ∷ xs) zero e = absurd (omega arith)
-  stored (y ∷ l) (x ∷ xs) (suc n) e = rw (sets_behind x l 0 xs, stored l xs n (omega arith))
+  stored (y ∷ l) (x ∷ xs) (suc n) e = rw (more x xs, sets_behind (f x) l 0 (field xs), stored l xs n (omega arith), more x (take (length l) xs))
 
-  -- so they are found again, as many as there is room for
+  stored_in : {room : ℕ} (l : List B) (xs : List A) (n : ℕ) → length l ≡ room → min n room ≡ min (length xs) room
+      → take n (sets l 0 (field xs)) ≡ field (take room xs)
+  stored_in l xs n h e = rw h at (stored l xs n (omega arith))
+
+-- so values that are stored are found again, as many as there is room for
+module _ {A : Type 0} where
   pub stored-list : (room : ℕ) (xs l : List A) (n : ℕ) → length l ≡ room → n ≡ min (length xs) room → take n (sets l 0 xs) ≡ take room xs
-  stored-list room xs l n h c = rw h at (stored l xs n (omega arith))
+  stored-list room xs l n h c = stored_in (λ (l : List A). l) (λ (x : A). x) refl (λ x xs. refl) {room = room} l xs n h (omega arith)
 
--- ranges that are stored are found again, as many as there is room for, and so is a map
-pub stored-ranges : (room : ℕ) (rs l : List MemoryRange) (n : ℕ) → length l ≡ room → n ≡ min (length rs) room → take n (sets l 0 rs) ≡ take room rs
-stored-ranges = stored-list
+-- lists of numbers beside each other, as callers may hold them: the starts and ends of ranges make them again, and so do
+-- the fields of a map
+ranges-again : (rs : List MemoryRange) → ranges_of (starts_in rs) (ends_in rs) ≡ rs
+ranges-again [] = refl
+ranges-again (r ∷ rs) = rw (ranges-again rs)
 
-pub stored-map : (room : ℕ) (m l : List MemoryEntry) (n : ℕ) → length l ≡ room → n ≡ min (length m) room → take n (sets l 0 m) ≡ take room m
-stored-map = stored-list
+map-again : (m : List MemoryEntry) → map_of (map_starts_of m) (map_ends_of m) (map_nodes_of m) (map_protectable_of m) ≡ m
+map-again [] = refl
+map-again (e ∷ es) = rw (entry-again e, map-again es)
+
+-- so ranges that are stored in two arrays are found again, as many as there is room for
+pub stored-ranges : (room : ℕ) (rs : List MemoryRange) (ss es : List ℕ) (n : ℕ) → length ss ≡ room → length es ≡ room
+    → n ≡ min (length rs) room → ranges_of (take n (sets ss 0 (starts_in rs))) (take n (sets es 0 (ends_in rs))) ≡ take room rs
+stored-ranges room rs ss es n s e c =
+    let m : min n room ≡ min (length rs) room = omega arith in
+    rw (
+      stored_in starts_in (λ r. r.start) refl (λ x xs. refl) ss rs n s m,
+      stored_in ends_in (λ r. r.end) refl (λ x xs. refl) es rs n e m,
+    )
+    (ranges-again (take room rs))
+
+-- and so is a map that is stored in four
+pub stored-map : (room : ℕ) (m : List MemoryEntry) (ss es ns : List ℕ) (ls : List Bool) (n : ℕ) → length ss ≡ room → length es ≡ room
+    → length ns ≡ room → length ls ≡ room → n ≡ min (length m) room
+    → map_of (take n (sets ss 0 (map_starts_of m))) (take n (sets es 0 (map_ends_of m))) (take n (sets ns 0 (map_nodes_of m))) (take n (sets ls 0 (map_protectable_of m)))
+    ≡ take room m
+stored-map room m ss es ns ls n s e t l c =
+    let k : min n room ≡ min (length m) room = omega arith in
+    rw (
+      stored_in map_starts_of (λ x. x.range.start) refl (λ x xs. refl) ss m n s k,
+      stored_in map_ends_of (λ x. x.range.end) refl (λ x xs. refl) es m n e k,
+      stored_in map_nodes_of (λ x. x.vnode) refl (λ x xs. refl) ns m n t k,
+      stored_in map_protectable_of (λ x. is_protectable x.mem_type) refl (λ x xs. refl) ls m n l k,
+    )
+    (map-again (take room m))
 
 -- the first of a list of ranges are valid, and ascend, where all do
 valid-take : (n : ℕ) (rs : List MemoryRange) → all_valid_of rs ≡ true → all_valid_of (take n rs) ≡ true
