@@ -1,5 +1,5 @@
 -- Laws of the two walks of a build: what stands in the list and in the table at each step.
-use Rattle.std.specs.Prelude.{ℕ, suc, ◌+◌, ◌≤◌, ◌<◌, ◌≡◌, refl, Bool, false, set, Option, None, Ok, Err}
+use Rattle.std.specs.Prelude.{ℕ, suc, ◌+◌, ◌≤◌, ◌<◌, ◌≡◌, refl, Bool, false, set, Option, Ok, Err}
 use Rattle.std.proofs.Common.{ap, sym, ◌∙◌, true≢false, add-one, arith, length-append, length-set, take-append-drop, length-take-le, drop-drop, drop-set-lt, take-suc-set}
 use Rattle.std.proofs.Math.Bool.{true}
 use mathlib.Core.List.{List, [], ◌∷◌, ◌++◌, append_assoc, append-nil}

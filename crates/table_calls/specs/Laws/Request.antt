@@ -18,7 +18,7 @@ use Rattle.table_words.specs.declared.code.CallError.TheVariants.{Refused, BadNu
 use Rattle.table_words.specs.Code.{Call, error_code}
 use Rattle.table_words.specs.Table.{Table, table_in}
 use Rattle.table_calls.specs.declared.request.Request.{Request}
-use Rattle.table_calls.specs.Request.{Handed, node_of, type_of, policy_of, alignment_of, request_good, request_of, request_read, refused_call, words_refusal, handed_call, outcome_of, words_outcome, answer_of, outcome_answer, request_call, answer_words, refusal_answer, left_by, after_one, answers_on, after_all}
+use Rattle.table_calls.specs.Request.{Handed, node_of, policy_of, alignment_of, request_good, request_of, request_read, refused_call, words_refusal, handed_call, outcome_of, words_outcome, answer_of, outcome_answer, request_call, answer_words, refusal_answer, left_by, after_one, answers_on, after_all}
 
 -- the words of an answer are those of the outcome
 words_as : (m : AddressSpaceManager) (t : AllocationType) (o : Outcome) → answer_words (request_call (allocation_as m t o).answer) ≡ outcome_answer o
