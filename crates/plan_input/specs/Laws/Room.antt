@@ -21,7 +21,7 @@ use Rattle.host_map.specs.Map.{map_of, map_ranges, is_protectable, map_starts_of
 use Rattle.vtl2_ram.specs.Rows.{counts_good}
 use Rattle.vtl2_ram.specs.Choice.{refused}
 use Rattle.vtl2_ram.specs.Select.{choice}
-use Rattle.vtl2_ram.specs.Laws.Map.{entry-again, length-map-ranges}
+use Rattle.vtl2_ram.specs.Laws.Map.{map-again, length-map-ranges}
 use Rattle.vtl2_ram.specs.Laws.Rows.{rows-count}
 use Rattle.memory.specs.declared.builder.AddressSpaceManagerBuilder.{AddressSpaceManagerBuilder}
 use Rattle.memory.specs.Build.{Build, refused as build_refused, build, filled}
@@ -64,15 +64,10 @@ module _ {A : Type 0} where
   pub stored-list : (room : ℕ) (xs l : List A) (n : ℕ) → length l ≡ room → n ≡ min (length xs) room → take n (sets l 0 xs) ≡ take room xs
   stored-list room xs l n h c = stored_in (λ (l : List A). l) (λ (x : A). x) refl (λ x xs. refl) {room = room} l xs n h (omega arith)
 
--- lists of numbers beside each other, as callers may hold them: the starts and ends of ranges make them again, and so do
--- the fields of a map
+-- lists of numbers beside each other, as callers may hold them: the starts and ends of ranges make them again
 ranges-again : (rs : List MemoryRange) → ranges_of (starts_in rs) (ends_in rs) ≡ rs
 ranges-again [] = refl
 ranges-again (r ∷ rs) = rw (ranges-again rs)
-
-map-again : (m : List MemoryEntry) → map_of (map_starts_of m) (map_ends_of m) (map_nodes_of m) (map_protectable_of m) ≡ m
-map-again [] = refl
-map-again (e ∷ es) = rw (entry-again e, map-again es)
 
 -- so ranges that are stored in two arrays are found again, as many as there is room for
 pub stored-ranges : (room : ℕ) (rs : List MemoryRange) (ss es : List ℕ) (n : ℕ) → length ss ≡ room → length es ≡ room
