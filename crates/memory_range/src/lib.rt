@@ -7,6 +7,7 @@
 
 mod align;
 mod has_range;
+mod list;
 mod power;
 mod range;
 mod round;
@@ -14,6 +15,7 @@ mod valid;
 mod write;
 
 pub use has_range::HasRange;
+pub use list::{range_count, tagged_count};
 pub use power::is_power_of_two;
 pub use range::{MemoryRange, SplitRange, TaggedRange};
 pub use round::{padding, round_up};
