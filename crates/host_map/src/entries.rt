@@ -6,7 +6,7 @@ ghost use Rattle.host_map.specs.Entries.{no_entry, no_entries, entries_held};
 
 use crate::rows::RangeCheck;
 use host_params::{MemoryEntry, MemoryMapEntryType};
-use memory_range::{MemoryRange, tagged_count};
+use memory_range::MemoryRange;
 
 pub const MAX_PARTITION_RAM_RANGES: usize = 1024;
 
@@ -99,7 +99,8 @@ pub fn copy_entries(map: &[MemoryEntry]) -> Entries
 pub fn copy_lists(starts: &[u64], ends: &[u64], nodes: &[u32], protectable: &[bool]) -> Entries
     ensures { result ≡ entries_held (map_of starts.now ends.now nodes.now protectable.now) }
 {
-    let count = tagged_count(starts, ends, nodes).min(protectable.len());
+    let ranges = starts.len().min(ends.len());
+    let count = ranges.min(nodes.len()).min(protectable.len());
     let mut held = Entries::new();
     for i in 0..count {
         held.put(MemoryEntry {
