@@ -1,5 +1,5 @@
 -- Laws of the stages of a plan: what the answers of a selection and of a build say of the plan.
-use Rattle.std.specs.Prelude.{ℕ, ◌≤◌, ◌≡◌, refl, Bool, ◌||◌, List, length, Ok, Err}
+use Rattle.std.specs.Prelude.{ℕ, ◌≤◌, ◌≡◌, Bool, ◌||◌, List, length, Ok, Err}
 use Rattle.std.proofs.Common.{ap, sym, ◌∙◌}
 use Rattle.refusal.specs.declared.Refusal.{Refusal}
 use Rattle.memory_range.specs.declared.range.MemoryRange.{MemoryRange}

@@ -1,7 +1,7 @@
 -- Laws of what a selection comes to: from as much of both lists as there is room for, and as it is asked for in numbers.
 use Rattle.std.specs.Prelude.{Option, Some, None, Ok, Err, ◌++◌, drop}
 use Prim.Native.Nat.{ℕ, ◌*◌, ◌≤◌, ◌<◌}
-use mathlib.Core.Path.{◌≡◌, refl, ap, ap₂}
+use mathlib.Core.Path.{◌≡◌, refl, ap₂}
 use mathlib.Core.Bool.{Bool, true, false, cond, ◌&&◌, not, and-eq-true_iff}
 use mathlib.Core.List.{List, [], ◌∷◌}
 use native.Mathlib.Omega.{arith}
