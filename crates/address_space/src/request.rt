@@ -132,16 +132,16 @@ impl AddressSpaceManager {
         }
     }
 
-    // Rows 22 to 25 of a request: that it is refused by one, or that an entry fits. Only the answer comes
-    // back, so a caller that asks this first gets no copy of the table for a request that is refused.
+    // Rows 22 to 25 of a request: that it is refused by one, or that an entry fits. The table is lent and only
+    // the answer comes back, so a caller that asks this first copies none for a request that is refused.
     pub fn check_request(
-        self,
+        &self,
         required_vnode: Option<u32>,
         len: u64,
         allocation_policy: AllocationPolicy,
         alignment: Option<u64>,
     ) -> Result<(), Refusal>
-        ensures { result ≡ rows_as (search_refusal required_vnode len allocation_policy alignment (entries_of self)) }
+        ensures { result ≡ rows_as (search_refusal required_vnode len allocation_policy alignment (entries_of self.now)) }
     {
         let len = check_rows(len, alignment)?;
         match find_index(

@@ -18,11 +18,13 @@ const MOST_DIGITS: usize = 16;
 fn digit_value(byte: u8) -> Option<u64>
     ensures { result ≡ digit_of byte }
 {
-    match byte {
-        b'0'..=b'9' => Some(u64::from(byte - b'0')),
-        b'a'..=b'f' => Some(u64::from(byte - b'a') + 10),
-        _ => None,
+    if b'0' <= byte && byte <= b'9' {
+        return Some(u64::from(byte - b'0'));
     }
+    if b'a' <= byte && byte <= b'f' {
+        return Some(u64::from(byte - b'a') + 10);
+    }
+    None
 }
 
 // The digits in front, up to the first other byte. Sixteen fill 64 bits, so the value cannot overflow.
