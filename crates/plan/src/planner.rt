@@ -16,12 +16,12 @@ use crate::get::answer_gets;
 use crate::pool::place_pool;
 use crate::write::{write_map_lines, write_pool_lines, write_ram_lines};
 use address_space::{AddressSpaceManager, MAX_ADDRESS_RANGES};
-use host_map::{MAP_ROOM, no_entry};
+use host_map::MAP_ROOM;
 use host_params::{IsolationType, MAX_VTL2_RAM_RANGES, MemoryEntry};
 use memory_range::{MemoryRange, TaggedRange};
 use plan_input::{
-    BuildRead, CONFIG_ROOM, IMPORT_ROOM, POOL_ROOM, PoolRead, SelectionRead, read_build, read_pool,
-    read_selection,
+    BLANK_ENTRY, BuildRead, CONFIG_ROOM, IMPORT_ROOM, POOL_ROOM, PoolRead, SelectionRead,
+    read_build, read_pool, read_selection,
 };
 use plan_output::LINE_SIZE;
 use plan_text::{TEXT_SIZE, check_from};
@@ -181,7 +181,7 @@ fn plan_within(text: &[u8], output: &mut [u8]) -> Result<usize, Refusal>
         return Err(Refusal::TextTooLong);
     }
     let none = MemoryRange::default();
-    let mut map = [no_entry(); MAP_ROOM];
+    let mut map = [BLANK_ENTRY; MAP_ROOM];
     let mut imports = [none; IMPORT_ROOM];
     let selection = read_selection(text, &mut map, &mut imports);
     let mut configs = [none; CONFIG_ROOM];

@@ -11,5 +11,6 @@ mod selection;
 mod word;
 
 pub use build::{BuildRead, CONFIG_ROOM, POOL_ROOM, read_build};
+pub use entry::BLANK_ENTRY;
 pub use once::{PoolRead, read_pool};
 pub use selection::{IMPORT_ROOM, SelectionRead, read_selection};

@@ -10,12 +10,12 @@ ghost use Rattle.table_words.specs.List.{range_in, ranges_in};
 ghost use Rattle.table_words.specs.Rows.{rows};
 ghost use Rattle.selection_calls.specs.Selection.{mode_of, isolation_of, is_protectable_word, entry_stands, entry_of, word_entries, map_stands, numbers_stand, ram_words, rows_of, rows_long, asked, count_of, ram_after};
 
-use host_map::{MAP_ROOM, RangeCheck, no_entry};
+use host_map::{MAP_ROOM, RangeCheck};
 use host_params::{
     IsolationType, MAX_VTL2_RAM_RANGES, MemoryAllocationMode, MemoryEntry, MemoryMapEntryType,
 };
 use memory_range::{MemoryRange, TaggedRange, put};
-use plan_input::IMPORT_ROOM;
+use plan_input::{BLANK_ENTRY, IMPORT_ROOM};
 use refusal::Refusal;
 use table_words::{CallError, NODE_BOUND, put_words, read_ranges};
 use vtl2_ram::{Vtl2Ram, select_vtl2_ram};
@@ -184,7 +184,7 @@ fn select_read(
     ensures { result ≡ ram_as (choice mode isolation ram_size file (word_entries map.now) (ranges_in imports.now)) }
 {
     check_long(file, map, imports)?;
-    let mut entries = [no_entry(); MAP_ROOM];
+    let mut entries = [BLANK_ENTRY; MAP_ROOM];
     read_map(map, &mut entries);
     let mut ranges = [MemoryRange { start: 0, end: 0 }; IMPORT_ROOM];
     read_ranges(imports, &mut ranges);

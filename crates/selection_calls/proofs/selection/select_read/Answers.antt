@@ -24,7 +24,7 @@ returns c =
       c.min-import_count.ensures,
       c.read_map.ensures,
       c.read_ranges.ensures,
-      map-lent a.map.now c.no_entry-entries.result,
+      map-lent a.map.now _,
       imports-lent a.imports.now _,
     ) at c.select_vtl2_ram.ensures
     ∙ ap ram_as (long-passed a.mode a.isolation a.ram_size a.file a.map.now a.imports.now passed)
