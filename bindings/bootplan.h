@@ -10,8 +10,8 @@
  * Each call looks at its own ranges for refusals 4 and 5; of a text all ranges are looked at first.
  *
  * The library allocates nothing and keeps nothing between calls. It works on the stack. The most that was
- * measured, in KiB rounded up (docs/PERFORMANCE.md says on what): bootplan_plan took 174 of it,
- * bootplan_place_pool 122, bootplan_select_ram 93, bootplan_build 58, bootplan_request 37,
+ * measured, in KiB rounded up (docs/PERFORMANCE.md says on what): bootplan_plan took 180 of it,
+ * bootplan_place_pool 128, bootplan_select_ram 96, bootplan_build 58, bootplan_request 43,
  * bootplan_vtl2_ranges 31. Nothing proves a bound, so leave room.
  *
  * The library asks nothing of numbers, lists and tables: whatever they hold is answered or refused. Of
