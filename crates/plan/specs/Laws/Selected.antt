@@ -1,15 +1,19 @@
 -- Laws of the stages of a plan: what the answers of a selection and of a build say of the plan.
-use Rattle.std.specs.Prelude.{ℕ, ◌≤◌, ◌≡◌, Bool, ◌||◌, List, length, Ok, Err}
+use Rattle.std.specs.Prelude.{ℕ, ◌≤◌, ◌≡◌, Bool, ◌||◌, List, length, Option, Ok, Err}
 use Rattle.std.proofs.Common.{ap, sym, ◌∙◌}
 use Rattle.refusal.specs.declared.Refusal.{Refusal}
 use Rattle.memory_range.specs.declared.range.MemoryRange.{MemoryRange}
 use Rattle.host_params.specs.declared.IsolationType.{IsolationType}
+use Rattle.host_params.specs.declared.MemoryAllocationMode.{MemoryAllocationMode}
+use Rattle.host_params.specs.declared.MemoryEntry.{MemoryEntry}
 use Rattle.boot_ram.specs.Held.{bytes_of}
 use Rattle.boot_ram.specs.Verdict.{max_chosen}
 use Rattle.vtl2_ram.specs.declared.ram.Vtl2Ram.{Vtl2Ram}
 use Rattle.vtl2_ram.specs.Choice.{Choice, refused, chosen, entries_of}
 use Rattle.vtl2_ram.specs.Ram.{ram_of, ram_entries, ram_as}
+use Rattle.vtl2_ram.specs.Select.{choice}
 use Rattle.vtl2_ram.specs.Laws.Ram.{entries-of}
+use Rattle.vtl2_ram.specs.Laws.Select.{choice_few}
 use Rattle.address_space.specs.declared.table.AddressSpaceManager.{AddressSpaceManager}
 use Rattle.address_space.specs.Table as table_of
 use Rattle.address_space.specs.Laws.Split.{entries_with}
@@ -35,6 +39,12 @@ selected-held (chosen xs) {ram} few e =
     let held = entries-of xs few in
     rw (← same) (record { few = few; total = ap bytes_of (sym held); choice = ap chosen (sym held) })
 
+-- whatever the planner selects is within the bound
+pub choice-held : (mode : MemoryAllocationMode) (isolation : IsolationType) (size : Option ℕ) (file : MemoryRange) (map : List MemoryEntry)
+    (imports : List MemoryRange) {ram : Vtl2Ram} → ram_as (choice mode isolation size file map imports) ≡ Ok ram
+    → Held ram (choice mode isolation size file map imports)
+choice-held mode isolation size file map imports = selected-held _ (choice_few mode isolation size file map imports)
+
 -- and is refused where that is
 as_refused : (selection : Choice) {r : Refusal} → ram_as selection ≡ Err r → selection ≡ refused r
 as_refused (refused k) e = cc
@@ -46,8 +56,13 @@ module _ (text : List ℕ) (isolation : IsolationType) (pool : Pool) (builder : 
   pub selected_refused : {r : Refusal} → ram_as selection ≡ Err r → plan_of text ≡ plan.refused r
   selected_refused e = s ∙ ap (after_choice isolation pool builder gets configs pools) (as_refused selection e)
 
+  -- of an answer whose entries are what is chosen, however many they are
+  pub selected_by : {ram : Vtl2Ram} → ram.bytes ≡ bytes_of (ram_entries ram) → selection ≡ chosen (ram_entries ram)
+      → Selected text isolation pool builder gets configs pools ram
+  selected_by total choice = record { total = total; plan = s ∙ ap (after_choice isolation pool builder gets configs pools) choice }
+
   pub selected : {ram : Vtl2Ram} → Held ram selection → Selected text isolation pool builder gets configs pools ram
-  selected h = record { total = h.total; plan = s ∙ ap (after_choice isolation pool builder gets configs pools) h.choice }
+  selected h = selected_by h.total h.choice
 
 -- after a selection the table is built
 pub selected-chosen : {text : List ℕ} {isolation : IsolationType} {pool : Pool} {builder : AddressSpaceManagerBuilder}

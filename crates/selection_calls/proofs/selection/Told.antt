@@ -26,6 +26,7 @@ use Rattle.vtl2_ram.specs.declared.ram.Vtl2Ram.{Vtl2Ram}
 use Rattle.vtl2_ram.specs.Choice.{Choice, refused, chosen, entries_of}
 use Rattle.vtl2_ram.specs.Ram.{ram_of, ram_entries, ram_as}
 use Rattle.vtl2_ram.specs.Laws.Ram.{entries-of}
+use Rattle.vtl2_ram.specs.Laws.Select.{choice_few}
 use Rattle.vtl2_ram.specs.Rows.{counts_good, rows_known}
 use Rattle.vtl2_ram.specs.Select.{choice}
 use Rattle.plan_input.specs.Room.{map_room, import_room}
@@ -148,6 +149,12 @@ choice_ok (chosen xs) {r} few h =
     let e : ram_of xs ≡ r = cc in
     let held = entries-of xs few in
     rw (← e, held) (refl, few)
+
+-- whatever is selected is within the bound
+pub choice-told : (mode : MemoryAllocationMode) (isolation : IsolationType) (size : Option ℕ) (file : MemoryRange) (map : List MemoryEntry)
+    (imports : List MemoryRange) {r : Vtl2Ram} → ram_as (choice mode isolation size file map imports) ≡ Ok r
+    → (chosen_as (choice mode isolation size file map imports) ≡ Ok (ram_entries r)) × (length (ram_entries r) ≤ max_chosen)
+choice-told mode isolation size file map imports = choice_ok _ (choice_few mode isolation size file map imports)
 
 -- the words of the most entries fit where there is room for them
 pub words_fit : (xs : List TaggedRange) (ram : List ℕ) → length xs ≤ max_chosen → ram_size_of ≤ length ram

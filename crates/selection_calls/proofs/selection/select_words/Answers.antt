@@ -1,10 +1,7 @@
 -- `selection::select_words` meets its contract: too little room, then numbers that stand for nothing, then selection.
 use Rattle.std.proofs.Common.{sym, ◌∙◌}
 use Rattle.std.proofs.lemmas.Result.{err_from_is_err_and}
-use Rattle.selection_calls.proofs.selection.Told.{map_among, asked-short, asked-bad, asked_good, choice_err, choice_ok, words_fit}
-use Rattle.vtl2_ram.specs.Laws.Select.{choice_few}
-use Rattle.table_words.specs.List.{ranges_in}
-use Rattle.selection_calls.specs.Selection.{word_entries}
+use Rattle.selection_calls.proofs.selection.Told.{map_among, asked-short, asked-bad, asked_good, choice_err, choice-told, words_fit}
 use Rattle.selection_calls.proofs.selection.select_words.Goals as goal
 
 pub returns-then-ram-lt-RAM_WORDS-clause-answer : goal.returns-then-ram-lt-RAM_WORDS-clause-answer
@@ -49,8 +46,7 @@ returns c =
     let a = c.args in
     let stand = sym c.numbers_stand.ensures ∙ c.if-not-numbers_stand.false in
     let good = asked_good a.mode a.isolation a.ram_size a.file a.map.now a.imports.now a.ram.now c.if-ram-lt-RAM_WORDS.false stand in
-    let few = choice_few _ _ a.ram_size a.file (word_entries a.map.now) (ranges_in a.imports.now) in
-    let chosen = choice_ok _ few (sym c.select_read.ensures ∙ c.in_ok-chosen.was) in
+    let chosen = choice-told _ _ _ _ _ _ (sym c.select_read.ensures ∙ c.in_ok-chosen.was) in
     let slice = c.as_slice-entries.ensures in
     let is = good ∙ rw (c.mode_of.ensures, c.isolation_of.ensures) at chosen.0 in
     record {
